@@ -1,0 +1,33 @@
+//! Laws of histories over any type of entries. Each function does nothing: its contract is the law, and a caller calls it
+//! where its proof needs the law.
+ghost use Rattle.histories.specs.Relations.{CallsOfBoth, CallsOfOne, GoesOnIsOrder, ShorterGoesOn, SameCallsAreOthers, OthersKeepCalls};
+
+/// The calls of two stretches are those of the later before those of the earlier.
+pub fn calls_of_both<E>()
+    ensures { CallsOfBoth E }
+{}
+
+/// Entries made by one owner are its calls.
+pub fn calls_of_one<E>()
+    ensures { CallsOfOne E }
+{}
+
+/// A history goes on to itself and to each longer one, and that is an order.
+pub fn goes_on_is_order<E>()
+    ensures { GoesOnIsOrder E }
+{}
+
+/// Two histories that go on to one are a shorter and a longer part of it.
+pub fn shorter_goes_on<E>()
+    ensures { ShorterGoesOn E }
+{}
+
+/// An owner whose calls stayed the same made no entry in between.
+pub fn same_calls_are_others<E>()
+    ensures { SameCallsAreOthers E }
+{}
+
+/// Entries of others keep an owner's calls.
+pub fn others_keep_calls<E>()
+    ensures { OthersKeepCalls E }
+{}

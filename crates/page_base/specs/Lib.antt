@@ -1,0 +1,4 @@
+pub mod Lanes
+pub mod Layouts
+pub mod ListSeen
+pub mod Pages

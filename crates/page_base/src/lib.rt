@@ -1,0 +1,23 @@
+//! What every crate of the library counts with: pages and their stripes, the layout of a buffer, watermarks, and lists
+//! whose room is known.
+//!
+//! It stands on std alone. It promises exact numbers: which stripe a page belongs to, how many frames a stripe has, at
+//! which marks it evicts, and which page sizes, stripes and frames go together. A list promises that what was reserved
+//! goes in later without taking memory. `specs/Lanes.antt` has the data by which all crates speak of a lane.
+#![tactic(auto)]
+
+mod bytes;
+mod faults;
+mod keys;
+mod layout;
+mod list;
+mod texts;
+mod watermarks;
+
+pub use bytes::Bytes;
+pub use faults::{LayoutFault, OutOfMemory};
+pub use keys::{Key, Marks, Raise, RegionShape, Why};
+pub use layout::Layout;
+pub use list::List;
+pub use texts::Texts;
+pub use watermarks::marks;
