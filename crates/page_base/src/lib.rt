@@ -11,6 +11,8 @@ mod faults;
 mod keys;
 mod layout;
 mod list;
+#[cfg(test)]
+mod tests;
 mod texts;
 mod watermarks;
 
