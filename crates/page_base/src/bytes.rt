@@ -1,7 +1,7 @@
 //! Bytes whose room is known: a `List` of bytes with the calls that move many at once.
 //!
 //! Contracts see `items` and `spare`, as of a `List`.
-ghost use Rattle.std.specs.Prelude.{◌≡◌, ◌<◌, ◌≤◌, ◌+◌, [], ◌∷◌, ◌++◌, length, slice_get, Some, OnOk, OnErr, IfOk};
+ghost use Rattle.std.specs.Prelude.{◌≡◌, ◌<◌, ◌≤◌, ◌+◌, [], ◌∷◌, ◌++◌, length, slice_get, Some, IsOk, OnOk, OnErr, IfOk};
 ghost use Rattle.page_base.specs.ListSeen.{spliced};
 
 use crate::faults::OutOfMemory;
@@ -105,6 +105,7 @@ impl Bytes {
         ensures ok { OnOk result (more ≤ self.new.spare) }
         ensures kept { self.old.spare ≤ self.new.spare }
         ensures err { OnErr result (self.new.spare ≡ self.old.spare) }
+        ensures enough { more ≤ self.old.spare → IsOk result }
     {
         match self.kept.reserve_exact(more) {
             Ok(()) => {

@@ -2,7 +2,7 @@
 //!
 //! Contracts see `items` and `spare`. The vector may have more capacity than `spare` says, and never less: `room` counts
 //! what was reserved and not yet used, so `put` takes no memory.
-ghost use Rattle.std.specs.Prelude.{◌≡◌, ◌<◌, ◌≤◌, ◌+◌, [], ◌∷◌, ◌++◌, length, slice_get, Some, OnOk, OnErr};
+ghost use Rattle.std.specs.Prelude.{◌≡◌, ◌<◌, ◌≤◌, ◌+◌, [], ◌∷◌, ◌++◌, length, slice_get, Some, IsOk, OnOk, OnErr};
 
 use crate::faults::OutOfMemory;
 use std::alloc::Global;
@@ -94,6 +94,7 @@ impl<T> List<T> {
         ensures ok { OnOk result (more ≤ self.new.spare) }
         ensures kept { self.old.spare ≤ self.new.spare }
         ensures err { OnErr result (self.new.spare ≡ self.old.spare) }
+        ensures enough { more ≤ self.old.spare → IsOk result }
     {
         match self.kept.reserve_exact(more) {
             Ok(()) => {

@@ -1,5 +1,5 @@
 //! Texts whose room is known: a `List` of strings, each seen as its bytes.
-ghost use Rattle.std.specs.Prelude.{◌≡◌, ◌<◌, ◌≤◌, ◌+◌, [], ◌∷◌, ◌++◌, length, slice_get, Some, OnOk, OnErr, string_bytes};
+ghost use Rattle.std.specs.Prelude.{◌≡◌, ◌<◌, ◌≤◌, ◌+◌, [], ◌∷◌, ◌++◌, length, slice_get, Some, IsOk, OnOk, OnErr, string_bytes};
 
 use crate::faults::OutOfMemory;
 use std::alloc::Global;
@@ -63,6 +63,7 @@ impl Texts {
         ensures ok { OnOk result (more ≤ self.new.spare) }
         ensures kept { self.old.spare ≤ self.new.spare }
         ensures err { OnErr result (self.new.spare ≡ self.old.spare) }
+        ensures enough { more ≤ self.old.spare → IsOk result }
     {
         match self.kept.reserve_exact(more) {
             Ok(()) => {
