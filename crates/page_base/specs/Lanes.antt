@@ -1,6 +1,6 @@
 -- What is seen of a lane: a stripe's share of one region's store.
 -- All of it is plain data, so that the paging model, the core and its callers speak of lanes without the trait that reads and writes them.
-use Rattle.std.specs.Prelude.{ℕ, Bool, ◌&&◌, ◌==◌, nat_lt, List, slice_index_or, Option, None}
+use Rattle.std.specs.Prelude.{ℕ, ◌+◌, ◌-◌, ◌^◌, ◌≤◌, min, Bool, ◌&&◌, ◌==◌, nat_lt, List, slice_index_or, Option, None}
 use Rattle.page_base.specs.Pages.{stripe_of}
 
 -- which lane of which store it is; no call changes it, and it determines the lane's pages
@@ -25,3 +25,7 @@ pub record LaneSeen : Type 0 where
 -- what a lane tells of a page
 abbrev pub told_at : List (Option (List ℕ)) → ℕ → Option (List ℕ)
 told_at told page = slice_index_or told page None
+
+-- a count of faults is greater than before, or stands at the last value that it can show
+abbrev pub Rose : (before now : ℕ) → Type 0
+Rose before now = min (before + 1) (2 ^ 64 - 1) ≤ now

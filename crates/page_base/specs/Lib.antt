@@ -1,3 +1,4 @@
+pub mod Backings
 pub mod Lanes
 pub mod Layouts
 pub mod ListSeen
