@@ -1,0 +1,13 @@
+pub mod Numbers
+pub mod Splits
+pub mod HexSteps
+pub mod RegionLists
+pub mod MapNumbers
+pub mod Lines
+pub mod Hex
+pub mod Names
+pub mod Sound
+pub mod Plain
+pub mod Complete
+pub mod Runnable
+pub mod Ends

@@ -1,0 +1,141 @@
+-- The workload language as a relation: which bytes spell which lines, and which lines are allowed
+-- behind which. It prints; nothing here reads.
+use Rattle.std.specs.Prelude.{◌≡◌, ◌≢◌, ℕ, ◌+◌, ◌<◌, ◌≤◌, ◌&&◌, ◌||◌, ◌==◌, nat_le, Bool, true, false, if◌then◌else◌, List, [], ◌∷◌, ◌++◌, length, codes, Option, Some, None, All, Contains, zero, suc}
+use Rattle.std.specs.Fmt.{decimal}
+use Rattle.std.specs.Str.{bytes_eq}
+use Rattle.std.specs.List.{list_all, join_with_byte}
+use Rattle.hex.specs.Hex.{encode_lower}
+use Rattle.page_base.specs.Backings.{in_memory, in_file, in_files}
+use Rattle.workload_text.specs.Line.{Line, map_line, script_line, load_line, store_line, prefetch_line, flush_line, unmap_line}
+
+-- a region, as the lines after its own know it
+pub record Region : Type 0 where
+  pub name : List ℕ
+  pub size : ℕ
+  pub writable : Bool
+
+-- what the lines so far have said: regions and script names in order, the number of commands, and
+-- the bytes that the loads among them load
+pub record Said : Type 0 where
+  pub regions : List Region
+  pub scripts : List (List ℕ)
+  pub commands : ℕ
+  pub loaded : ℕ
+
+abbrev pub nothing : Said
+nothing = record { regions = []; scripts = []; commands = 0; loaded = 0 }
+
+-- what they have said with one more line
+abbrev pub after : Said → Line → Said
+after s (map_line name kept size writable) = record s { regions = s.regions ++ record { name = name; size = size; writable = writable } ∷ [] }
+after s (script_line name) = record s { scripts = s.scripts ++ name ∷ [] }
+after s (load_line r off len) = record s { commands = s.commands + 1; loaded = s.loaded + len }
+after s l = record s { commands = s.commands + 1 }
+
+-- a letter, a digit or `_`
+abbrev pub is_name_byte : ℕ → Bool
+is_name_byte c = (nat_le 65 c && nat_le c 90) || ((nat_le 97 c && nat_le c 122) || ((nat_le 48 c && nat_le c 57) || (c == 95)))
+
+-- 1 to 32 such bytes
+abbrev pub is_name : List ℕ → Bool
+is_name name = nat_le 1 (length name) && (nat_le (length name) 32 && list_all is_name_byte name)
+
+abbrev pub name_at : List Region → ℕ → List ℕ
+name_at [] r = []
+name_at (g ∷ gs) zero = g.name
+name_at (g ∷ gs) (suc r) = name_at gs r
+
+abbrev pub size_at : List Region → ℕ → ℕ
+size_at [] r = 0
+size_at (g ∷ gs) zero = g.size
+size_at (g ∷ gs) (suc r) = size_at gs r
+
+abbrev pub writable_at : List Region → ℕ → Bool
+writable_at [] r = false
+writable_at (g ∷ gs) zero = g.writable
+writable_at (g ∷ gs) (suc r) = writable_at gs r
+
+-- the number of the first region of a name, the numbers counted from n
+abbrev pub region_from : ℕ → List Region → List ℕ → Option ℕ
+region_from n [] name = None
+region_from n (g ∷ gs) name = if bytes_eq g.name name then Some n else region_from (n + 1) gs name
+
+abbrev pub region_of : Said → List ℕ → Option ℕ
+region_of s name = region_from 0 s.regions name
+
+abbrev pub mode_text : Bool → List ℕ
+mode_text true = codes "rw"
+mode_text false = codes "ro"
+
+-- the fields of a line, where the lines before it have said s
+abbrev pub fields : Said → Line → List (List ℕ)
+fields s (map_line name in_memory size writable) = codes "map" ∷ name ∷ codes "memory" ∷ decimal size ∷ mode_text writable ∷ []
+fields s (map_line name (in_file path) size writable) = codes "map" ∷ name ∷ codes "file" ∷ path ∷ decimal size ∷ mode_text writable ∷ []
+fields s (map_line name (in_files path file) size writable) = codes "map" ∷ name ∷ codes "sparse" ∷ path ∷ decimal size ∷ decimal file ∷ mode_text writable ∷ []
+fields s (script_line name) = codes "script" ∷ name ∷ []
+fields s (load_line r off len) = codes "load" ∷ name_at s.regions r ∷ decimal off ∷ decimal len ∷ []
+fields s (store_line r off bytes) = codes "store" ∷ name_at s.regions r ∷ decimal off ∷ encode_lower bytes ∷ []
+fields s (prefetch_line r off len) = codes "prefetch" ∷ name_at s.regions r ∷ decimal off ∷ decimal len ∷ []
+fields s flush_line = codes "flush" ∷ []
+fields s (unmap_line r) = codes "unmap" ∷ name_at s.regions r ∷ []
+
+-- a line without its line feed: the fields with one space between
+abbrev pub line_text : Said → Line → List ℕ
+line_text s l = join_with_byte 32 (fields s l)
+
+-- the text of lines behind lines that have said s: each with a line feed
+abbrev pub spelled : Said → List Line → List ℕ
+spelled s [] = []
+spelled s (l ∷ ls) = line_text s l ++ 10 ∷ spelled (after s l) ls
+
+-- a region in memory may come: the only one, above all scripts
+pub record MayMap (s : Said) (name : List ℕ) (size : ℕ) : Type 0 where
+  pub only : s.regions ≡ []
+  pub above : s.scripts ≡ []
+  pub named : is_name name ≡ true
+  pub least : 1 ≤ size
+  pub most : size ≤ 16777216
+
+-- a script may begin: its name is new, and it is at most the 64th
+pub record MayBegin (s : Said) (name : List ℕ) : Type 0 where
+  pub named : is_name name ≡ true
+  pub fresh : ¬ Contains s.scripts name
+  pub few : length s.scripts < 64
+
+-- a command may reach so many bytes of a region, which it names as the first of its name
+pub record MayReach (s : Said) (r off len : ℕ) : Type 0 where
+  pub begun : s.scripts ≢ []
+  pub first : region_of s (name_at s.regions r) ≡ Some r
+  pub place : off ≤ 1099511627776
+  pub short : len ≤ 65536
+  pub inside : off + len ≤ size_at s.regions r
+  pub few : s.commands < 262144
+
+pub record MayLoad (s : Said) (r off len : ℕ) : Type 0 where
+  pub reach : MayReach s r off len
+  pub room : s.loaded + len ≤ 33554432
+
+pub record MayStore (s : Said) (r off : ℕ) (bytes : List ℕ) : Type 0 where
+  pub reach : MayReach s r off (length bytes)
+  pub some : 1 ≤ length bytes
+  pub bytes_all : All (λ b. b < 256) bytes
+  pub writable : writable_at s.regions r ≡ true
+
+-- what a line may be behind lines that have said s; the forms that aren't built yet are nowhere
+-- allowed
+abbrev pub Allowed : Said → Line → Type 0
+Allowed s (map_line name in_memory size writable) = MayMap s name size
+Allowed s (script_line name) = MayBegin s name
+Allowed s (load_line r off len) = MayLoad s r off len
+Allowed s (store_line r off bytes) = MayStore s r off bytes
+Allowed s l = ⊥
+
+abbrev pub AllAllowed : Said → List Line → Type 0
+AllAllowed s [] = Unit {0}
+AllAllowed s (l ∷ ls) = Allowed s l × AllAllowed (after s l) ls
+
+-- the bytes are the spelling of these lines, and these lines are an accepted workload
+pub record Spells (bytes : List ℕ) (lines : List Line) : Type 0 where
+  pub spelt : bytes ≡ spelled nothing lines
+  pub allowed : AllAllowed nothing lines
+  pub short : length bytes ≤ 16777216

@@ -1,0 +1,72 @@
+-- What has been read so far, and what one more line does to it: the terms in which the reader's own
+-- methods are stated. No caller needs them.
+use Rattle.std.specs.Prelude.{◌≡◌, ◌≤◌, ℕ, List, [], ◌∷◌, ◌++◌, length, map, Option, Some, None, Result, Ok, Err}
+use Rattle.std.specs.List.{flat_map}
+use Rattle.std.specs.Result.{IsOkAnd}
+use Rattle.workload_text.specs.Line.{Line}
+use Rattle.workload_text.specs.View.{region_line, script_lines}
+use Rattle.workload_text.specs.Grammar.{Region, Said, after}
+use Rattle.workload_text.specs.Reading.{Refusal}
+use Rattle.workload_text.specs.declared.workload.MapLine.{MapLine}
+use Rattle.workload_text.specs.declared.workload.Script.{Script}
+use Rattle.workload_text.specs.declared.reading.Reading.{Reading}
+use Rattle.workload_text.specs.declared.refusal.TextKind.{TextKind}
+use Rattle.workload_text.specs.declared.refusal.LineFault.{LineFault}
+use Rattle.workload_text.specs.declared.refusal.LineFault.TheVariants.{Refused, OutOfMemory}
+
+abbrev pub region : MapLine → Region
+region m = record { name = m.name.items; size = m.length; writable = m.writable }
+
+abbrev pub script_name : Script → List ℕ
+script_name s = s.name.items
+
+abbrev pub open_lines : Option Script → List Line
+open_lines None = []
+open_lines (Some s) = script_lines s
+
+abbrev pub open_names : Option Script → List (List ℕ)
+open_names None = []
+open_names (Some s) = script_name s ∷ []
+
+-- the lines read so far
+abbrev pub lines_so_far : List MapLine → List Script → Option Script → List Line
+lines_so_far maps scripts current = map region_line maps ++ (flat_map script_lines scripts ++ open_lines current)
+
+-- what they have said
+abbrev pub said : List MapLine → List Script → Option Script → ℕ → ℕ → Said
+said maps scripts current commands loaded = record {
+  regions = map region maps;
+  scripts = map script_name scripts ++ open_names current;
+  commands = commands;
+  loaded = loaded;
+}
+
+abbrev pub said_by : Reading → Said
+said_by r = said r.maps.items r.scripts.items r.current r.commands r.loaded
+
+abbrev pub lines_by : Reading → List Line
+lines_by r = lines_so_far r.maps.items r.scripts.items r.current
+
+-- above the first `script` line no script is kept
+abbrev pub Begun : Option Script → List Script → Type 0
+Begun None scripts = scripts ≡ []
+Begun (Some s) scripts = Unit {0}
+
+-- the line stands behind those read before it
+pub record Took (old new : Reading) (l : Line) : Type 0 where
+  pub lines : lines_by new ≡ lines_by old ++ l ∷ []
+  pub says : said_by new ≡ after (said_by old) l
+  pub begun : Begun new.current new.scripts.items
+  pub few : length new.maps.items ≤ 64
+  pub small : new.loaded ≤ 33554432
+
+-- what is read as a line is taken, what is refused is refused for its kind; want of memory is free
+abbrev pub Takes : {U : Type 0} → Reading → Reading → Result Line TextKind → Result U LineFault → Type 0
+Takes old new read (Ok u) = IsOkAnd read (λ l. Took old new l)
+Takes old new read (Err OutOfMemory) = Unit {0}
+Takes old new read (Err (Refused kind)) = read ≡ Err kind
+
+-- these lines, and then what is read
+abbrev pub with_front : List Line → Result (List Line) Refusal → Result (List Line) Refusal
+with_front front (Ok ls) = Ok (front ++ ls)
+with_front front (Err e) = Err e

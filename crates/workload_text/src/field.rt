@@ -1,0 +1,123 @@
+//! Readers of single fields: each accepts the one spelling that the grammar prints.
+ghost use Rattle.std.specs.Prelude.{◌≡◌, ◌<◌, ◌≤◌, ◌*◌, ◌^◌, ℕ, true, length, IfOk, IfSome};
+ghost use Rattle.std.specs.Option.{option_map};
+ghost use Rattle.std.specs.List.{list_all};
+ghost use Rattle.workload_text.specs.Grammar.{is_name, is_name_byte};
+ghost use Rattle.workload_text.specs.Reading.{number_of, bytes_of, mode_of, is_hex, is_hex_digit, hex_digit_value, hex_pairs};
+
+use itoa::Buffer;
+use page_base::{Bytes, OutOfMemory};
+use std::alloc::Global;
+use std::str;
+
+/// The number that a field spells, within a range. It is printed back and compared, so that one
+/// spelling alone is read.
+pub fn number(field: &[u8], least: u64, most: u64) -> Option<u64>
+    ensures value { result ≡ number_of least most field.now }
+    ensures small { IfSome result (λ n. n ≤ most) }
+{
+    let text = match str::from_utf8(field) {
+        Ok(text) => text,
+        Err(_) => return None,
+    };
+    let n = match text.parse::<u64>() {
+        Ok(n) => n,
+        Err(_) => return None,
+    };
+    if n < least || n > most {
+        return None;
+    }
+    let mut buffer = Buffer::new();
+    let again = buffer.format(n).as_bytes();
+    if again == field { Some(n) } else { None }
+}
+
+fn is_name_byte(c: u8) -> bool
+    ensures { result ≡ is_name_byte c }
+{
+    (65 <= c && c <= 90) || (97 <= c && c <= 122) || (48 <= c && c <= 57) || c == 95
+}
+
+pub fn is_name(field: &[u8]) -> bool
+    ensures { result ≡ is_name field.now }
+{
+    if field.len() < 1 || field.len() > 32 {
+        return false;
+    }
+    for c in field {
+        if !is_name_byte(*c) {
+            return false;
+        }
+    }
+    true
+}
+
+#[tactic(auto, unfolding(crate::specs::Reading::mode_of))]
+pub fn mode(field: &[u8]) -> Option<bool>
+    ensures { result ≡ mode_of field.now }
+{
+    if field == b"rw".as_slice() {
+        return Some(true);
+    }
+    if field == b"ro".as_slice() {
+        return Some(false);
+    }
+    None
+}
+
+fn is_hex_digit(c: u8) -> bool
+    ensures { result ≡ is_hex_digit c }
+{
+    (48 <= c && c <= 57) || (97 <= c && c <= 102)
+}
+
+fn hex_digit_value(c: u8) -> u8
+    requires { is_hex_digit c ≡ true }
+    ensures value { result ≡ hex_digit_value c }
+    ensures small { result < 16 }
+{
+    if c <= 57 { c - 48 } else { c - 87 }
+}
+
+// No early exit, so that the loop is one over whole vectors of bytes.
+fn all_hex_digits(field: &[u8]) -> bool
+    ensures { result ≡ list_all is_hex_digit field.now }
+{
+    let mut all = true;
+    for c in field {
+        all = all & is_hex_digit(*c);
+    }
+    all
+}
+
+fn is_hex(field: &[u8]) -> bool
+    ensures { result ≡ is_hex field.now }
+{
+    field.len() % 2 == 0 && 2 <= field.len() && field.len() <= 131072 && all_hex_digits(field)
+}
+
+fn decode(field: &[u8], out: &mut [u8])
+    requires digits { list_all is_hex_digit field.now ≡ true }
+    requires fits { length field.now ≡ 2 * length out.old }
+    ensures { out.new ≡ hex_pairs field.now }
+{
+    'bytes: for i in 0..out.len() {
+        out[i] = 16 * hex_digit_value(field[2 * i]) + hex_digit_value(field[2 * i + 1]);
+    }
+}
+
+/// The bytes that a field spells, in memory of their own.
+#[tactic(auto, unfolding(crate::specs::Reading::bytes_of))]
+pub fn hex_bytes(alloc: Global, field: &[u8]) -> Result<Option<Bytes>, OutOfMemory>
+    ensures value { IfOk result (λ o. option_map (λ b. b.items) o ≡ bytes_of field.now) }
+    ensures few { IfOk result (λ o. IfSome o (λ b. length b.items ≤ 65536)) }
+{
+    if !is_hex(field) {
+        return Ok(None);
+    }
+    let Ok(mut kept) = vec![in alloc; 0u8; field.len() / 2] else {
+        return Err(OutOfMemory);
+    };
+    decode(field, kept.as_mut_slice());
+    Ok(Some(Bytes::from_vec(kept)))
+}
