@@ -34,9 +34,6 @@ use Rattle.page_model.specs.Core as core
 
 -- ---- pages
 
-pub page_key : Resident → Key
-page_key r = r.key
-
 pub held_pages : (h : History Entry) (c : Core) → StandsFor h c → AllByRecursion (λ (r : Resident). has_page c.setup r.key ≡ true) c.pages
 held_pages h c st = all_unmap (λ (k : Key). has_page c.setup k ≡ true) (λ (r : Resident). r.key) c.pages (subst (λ ks. AllByRecursion (λ (k : Key). has_page c.setup k ≡ true) ks) (sym st.order) (resident_pages c.setup h st.legal))
 
@@ -150,7 +147,7 @@ hint_is h c k st lt =
 pub held_length : (h : History Entry) (c : Core) → StandsFor h c → length c.pages ≡ length (residents h)
 held_length h c st = sym (length-map c.pages (λ (r : Resident). r.key)) ∙ ap (λ (ks : List Key). length ks) st.order
 
-reads_out_is : (h : History Entry) (c : Core) → StandsFor h c → core.reads_out c ≡ reads_out c.setup h
+pub reads_out_is : (h : History Entry) (c : Core) → StandsFor h c → core.reads_out c ≡ reads_out c.setup h
 reads_out_is h c st =
     count_zip (λ (g : RegionSeen). is_read_place g.place) (reads_in h) c.regions 0 (λ j g e. let z : j ≡ 0 + j = omega arith in read_place_is c.setup h j g.place (st.regions j g e).place ∙ ap (reads_in h) z)
     ∙ ap (λ n. length (filter (reads_in h) (range_with_len 0 n))) st.count

@@ -1,25 +1,28 @@
 -- What is known where a service or a trip may start, and of a trip that is out.
-use Rattle.std.proofs.Common.{None, Option, Some, false, find, refl, subst, sym, true, ℕ, ◌==◌, ◌∙◌, ◌≡◌}
+use Rattle.std.proofs.Common.{None, Option, Some, arith, false, find, length, option_map, refl, slice_get, subst, sym, true, ℕ, ◌+◌, ◌==◌, ◌∙◌, ◌≡◌, ◌≤◌}
 use Rattle.std.proofs.lemmas.Bool.{and_from, cond-true, eq-eqb}
 use Rattle.std.specs.List.{list_any}
-use Rattle.histories.specs.Histories.{History}
+use Rattle.histories.specs.Histories.{History, first}
 use Rattle.page_base.specs.Lanes.{LaneSeen}
 use Rattle.page_base.specs.Pages.{same}
 use Rattle.page_base.specs.declared.keys.Key.{Key}
 use Rattle.page_base.specs.declared.keys.Raise.{Raise}
+use Rattle.page_base.specs.declared.keys.RegionShape.{RegionShape}
 use Rattle.page_model.specs.declared.entry.Entry.{Entry}
 use Rattle.page_model.specs.Bits.{is_protected}
 use Rattle.page_model.specs.Core.{Core, Home, LanePlace, Reading, RegionSeen, Writing, is_home_place, place_passes, region_at}
 use Rattle.page_model.specs.Faults.{is_pending, pending}
 use Rattle.page_model.specs.InFlight.{in_flight}
-use Rattle.page_model.specs.Readers.{IsHere, ReadyToOpen, ServiceKnows, StartsOpen}
-use Rattle.page_model.specs.Residents.{is_resident}
+use Rattle.page_model.specs.Readers.{IsHere, LaneHas, ReadyToOpen, ServiceKnows, StartsOpen}
+use Rattle.page_model.specs.Residents.{is_resident, reads_out, residents}
 use Rattle.page_model.specs.Serving.{is_servable, is_stale, next_of, waits_for_room}
+use Rattle.page_model.specs.Setups.{Fits, IsLaneOf, Setup, has_page, is_page_of}
 use Rattle.page_model.specs.Stands.{HomeLane, PlaceStands, StandsFor}
-use Rattle.page_model.proofs.Agreements.{guarded_is, next_is, pending_is, present_is}
+use Rattle.page_model.proofs.Agreements.{guarded_is, held_length, next_is, pending_is, present_is, reads_out_is}
 use Rattle.page_model.proofs.Keys.{same_self}
 use Rattle.page_model.proofs.Lists.{found_any}
 use Rattle.page_model.proofs.Nexts.{chosen_drop, open_page_is, open_served}
+use Rattle.page_model.proofs.Quota.{never_over}
 use Rattle.page_model.proofs.StandsPages.{present_page}
 use Rattle.page_model.proofs.StandsReads.{read_out, read_ready}
 use Rattle.page_model.proofs.StandsWrites.{write_out}
@@ -60,8 +63,27 @@ home_like : (h : History Entry) (c : Core) (r : ℕ) (lane : LaneSeen) → Stand
 home_like h c r lane st here =
     let there : PlaceStands c.setup h r (Home lane) = subst (PlaceStands c.setup h r) here.home (st.regions r here.region here.is).place in there.1
 
+lane_has : (s : Setup) (h : History Entry) (k : Key) (lane : LaneSeen) → Fits s → has_page s k ≡ true → HomeLane s h k.region lane → LaneHas s k lane
+lane_has s h k lane fits page st = go (slice_get s.shapes k.region) refl (slice_get s.lanes k.region) refl page st.origin
+  where
+    go : (o : Option RegionShape) → slice_get s.shapes k.region ≡ o → (l : Option LaneSeen) → slice_get s.lanes k.region ≡ l → is_page_of s o k ≡ true → option_map (λ (x : LaneSeen). x.origin) l ≡ Some lane.origin → LaneHas s k lane
+    go None shape_is l lane_is e f = absurd cc
+    go (Some shape) shape_is None lane_is e f = absurd cc
+    go (Some shape) shape_is (Some first) lane_is e f =
+        let of : IsLaneOf s k.region shape lane.origin = subst (IsLaneOf s k.region shape) (cc) (fits.lane_of k.region shape first shape_is lane_is) in
+        record {
+          page = rw (of.pages, of.stripes, of.group, of.region, of.stripe) e;
+          page_size = of.page_size;
+        }
+
+within : (h : History Entry) (c : Core) → StandsFor h c → length c.pages + core.reads_out c ≤ core.frames_held c
+within h c st =
+    let held : length c.pages ≡ length (residents h) = held_length h c st in
+    let out : core.reads_out c ≡ reads_out c.setup h = reads_out_is h c st in
+    omega (arith, never_over c.setup h st.legal)
+
 pub service_knows : ServiceKnows
-service_knows = record { read = read_ready; open_ = open_ready; drop = drop_ready; present = present_page; here = here_at; like = home_like; read_out = read_out; write_out = write_out }
+service_knows = record { read = read_ready; open_ = open_ready; drop = drop_ready; present = present_page; here = here_at; like = home_like; lane_has = lane_has; within = within; read_out = read_out; write_out = write_out }
 
 pub starts_open : StartsOpen
 starts_open = record {

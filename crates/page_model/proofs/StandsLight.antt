@@ -38,7 +38,7 @@ use Rattle.page_model.proofs.Members.{all_found}
 use Rattle.page_model.proofs.Nexts.{chosen_drop}
 use Rattle.page_model.proofs.Prefixes.{page_region}
 use Rattle.page_model.proofs.Raises.{hint_raised}
-use Rattle.page_model.proofs.Untouched.{SameRegion, place_same, region_same}
+use Rattle.page_model.proofs.Untouched.{SameRegion, place_same, region_same, unmoved}
 use Rattle.page_model.specs.declared.entry.HintAnswer.TheVariants as answer
 use Rattle.page_model.specs.Core as core
 use Rattle.page_model.specs.declared.seen.Next.TheVariants as serve
@@ -122,7 +122,7 @@ load_stands h o c k place bytes st can =
       pages = st.pages;
       queue = st.queue;
       count = st.count;
-      regions = λ r g e. region_same c.setup h ((o, Load k place bytes) ∷ h) r g (record { flight = refl; why = λ j jr x. refl; keeps = λ j jr. refl; fault = refl; closing = refl; unmapped = refl; read_faults = λ p. refl }) (st.regions r g e);
+      regions = λ r g e. region_same c.setup h ((o, Load k place bytes) ∷ h) r g (unmoved c.setup h o (Load k place bytes) r refl) (st.regions r g e);
       evicting = st.evicting;
       counts = st.counts;
       events = omega (arith, st.events);
@@ -212,10 +212,10 @@ hint_by h o c k answer.Raised st page is =
       counts = st.counts;
       events = omega (arith, st.events);
     }
-hint_by h o c k answer.Present st page is = hint_light h o c k answer.Present st page is (λ r. record { flight = refl; why = λ j jr x. refl; keeps = λ j jr. refl; fault = refl; closing = refl; unmapped = refl; read_faults = λ p. refl }) st.pages refl refl refl refl
-hint_by h o c k answer.Pending st page is = hint_light h o c k answer.Pending st page is (λ r. record { flight = refl; why = λ j jr x. refl; keeps = λ j jr. refl; fault = refl; closing = refl; unmapped = refl; read_faults = λ p. refl }) st.pages refl refl refl refl
-hint_by h o c k answer.Full st page is = hint_light h o c k answer.Full st page is (λ r. record { flight = refl; why = λ j jr x. refl; keeps = λ j jr. refl; fault = refl; closing = refl; unmapped = refl; read_faults = λ p. refl }) st.pages refl refl refl refl
-hint_by h o c k answer.Closed st page is = hint_light h o c k answer.Closed st page is (λ r. record { flight = refl; why = λ j jr x. refl; keeps = λ j jr. refl; fault = refl; closing = refl; unmapped = refl; read_faults = λ p. refl }) st.pages refl refl refl refl
+hint_by h o c k answer.Present st page is = hint_light h o c k answer.Present st page is (λ r. unmoved c.setup h o (Hint k answer.Present) r refl) st.pages refl refl refl refl
+hint_by h o c k answer.Pending st page is = hint_light h o c k answer.Pending st page is (λ r. unmoved c.setup h o (Hint k answer.Pending) r refl) st.pages refl refl refl refl
+hint_by h o c k answer.Full st page is = hint_light h o c k answer.Full st page is (λ r. unmoved c.setup h o (Hint k answer.Full) r refl) st.pages refl refl refl refl
+hint_by h o c k answer.Closed st page is = hint_light h o c k answer.Closed st page is (λ r. unmoved c.setup h o (Hint k answer.Closed) r refl) st.pages refl refl refl refl
 
 pub hint_stands : HintStands
 hint_stands h o c k st page = hint_by h o c k (core.hint_answer c k) st page (hint_is h c k st (page_region c.setup k page))
@@ -234,7 +234,7 @@ drop_raise_stands h o c k st e =
       pages = st.pages;
       queue = ap (served k) st.queue;
       count = st.count;
-      regions = λ r g f. region_same c.setup h ((o, Dropped k) ∷ h) r g (record { flight = refl; why = λ j jr y. refl; keeps = λ j jr. refl; fault = refl; closing = refl; unmapped = refl; read_faults = λ p. refl }) (st.regions r g f);
+      regions = λ r g f. region_same c.setup h ((o, Dropped k) ∷ h) r g (unmoved c.setup h o (Dropped k) r refl) (st.regions r g f);
       evicting = st.evicting;
       counts = st.counts;
       events = omega (arith, st.events);

@@ -34,7 +34,7 @@ use Rattle.page_model.proofs.Members.{all_filter, all_found, all_map, is_there}
 use Rattle.page_model.proofs.Memories.{flat_other, flat_saved}
 use Rattle.page_model.proofs.Nexts.{open_page_is}
 use Rattle.page_model.proofs.Prefixes.{page_region}
-use Rattle.page_model.proofs.Untouched.{region_same}
+use Rattle.page_model.proofs.Untouched.{region_same, unmoved}
 use Rattle.page_model.specs.declared.seen.Next.TheVariants as serve
 
 -- a present page is one of the stripe's
@@ -82,7 +82,7 @@ save_stands h o c k place bytes st can =
       pages = all_map (PageStands c.setup h) (PageStands c.setup ((o, Save k place bytes) ∷ h)) (λ (r : Resident). cond (same r.key k) (record r { bytes = spliced r.bytes place bytes }) r) c.pages (λ r p. page_saved c.setup h o k place bytes r can.in_page.inside p) st.pages;
       queue = st.queue;
       count = st.count;
-      regions = λ r g e. region_same c.setup h ((o, Save k place bytes) ∷ h) r g (record { flight = refl; why = λ j jr x. refl; keeps = λ j jr. refl; fault = refl; closing = refl; unmapped = refl; read_faults = λ p. refl }) (st.regions r g e);
+      regions = λ r g e. region_same c.setup h ((o, Save k place bytes) ∷ h) r g (unmoved c.setup h o (Save k place bytes) r refl) (st.regions r g e);
       evicting = st.evicting;
       counts = st.counts;
       events = omega (arith, st.events);
@@ -125,7 +125,7 @@ open_page_stands h o c k st e =
       pages = all_map (PageStands c.setup h) (PageStands c.setup ((o, Opened k) ∷ h)) (λ (r : Resident). cond (same r.key k) (record r { protected = false; dirty = true }) r) c.pages (λ r p. page_opened c.setup h o k r st.legal p) st.pages;
       queue = ap (served k) st.queue;
       count = st.count;
-      regions = λ r g f. region_same c.setup h ((o, Opened k) ∷ h) r g (record { flight = refl; why = λ j jr x. refl; keeps = λ j jr. refl; fault = refl; closing = refl; unmapped = refl; read_faults = λ p. refl }) (st.regions r g f);
+      regions = λ r g f. region_same c.setup h ((o, Opened k) ∷ h) r g (unmoved c.setup h o (Opened k) r refl) (st.regions r g f);
       evicting = st.evicting;
       counts = st.counts;
       events = omega (arith, st.events);
@@ -172,7 +172,7 @@ evict_stands h o c k why st can =
       pages = all_filter (PageStands c.setup h) (λ (r : Resident). not (same r.key k)) c.pages st.pages;
       queue = st.queue;
       count = st.count;
-      regions = λ r g f. region_same c.setup h ((o, Evicted k why) ∷ h) r g (record { flight = refl; why = λ j jr x. refl; keeps = λ j jr. refl; fault = refl; closing = refl; unmapped = refl; read_faults = λ p. refl }) (st.regions r g f);
+      regions = λ r g f. region_same c.setup h ((o, Evicted k why) ∷ h) r g (unmoved c.setup h o (Evicted k why) r refl) (st.regions r g f);
       evicting = ap (λ n. nat_lt (off_mark (quota c.setup) c.setup.low) n && c.evicting) left ∙ ap (λ b. nat_lt (off_mark (quota c.setup) c.setup.low) (length (without k (residents h))) && b) st.evicting;
       counts = ap (counted (Evicted k why)) st.counts;
       events = omega (arith, st.events);

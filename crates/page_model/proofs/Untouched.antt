@@ -7,7 +7,7 @@ use Rattle.page_base.specs.Pages.{same}
 use Rattle.page_base.specs.declared.keys.Key.{Key}
 use Rattle.page_base.specs.declared.keys.Why.TheVariants.{Ahead}
 use Rattle.page_model.specs.declared.entry.Entry.{Entry}
-use Rattle.page_model.specs.declared.entry.Entry.TheVariants.{Closing, Filled, Hint, Raised, ReadFailed, StartRead, StartWrite, Unmapped, WriteFailed, Written}
+use Rattle.page_model.specs.declared.entry.Entry.TheVariants.{Closing, Dropped, Evicted, Filled, Hint, Load, Opened, Raised, ReadFailed, Save, StartRead, StartWrite, Unmapped, WriteFailed, Written}
 use Rattle.page_model.specs.Closings.{is_closing, is_unmapped}
 use Rattle.page_model.specs.Core.{Home, LanePlace, Reading, RegionSeen, Writing}
 use Rattle.page_model.specs.Entries.{region_of}
@@ -170,3 +170,30 @@ untouched s h o (Unmapped q) r n = record {
   read_faults = λ p. refl;
 }
 untouched s h o e r n = record { flight = refl; why = λ j jr x. refl; keeps = λ j jr. refl; fault = refl; closing = refl; unmapped = refl; read_faults = λ p. refl }
+
+-- the entry may change what a core shows of its region
+abbrev pub moves_region : Entry → Bool
+moves_region (Load k place bytes) = false
+moves_region (Save k place bytes) = false
+moves_region (Opened k) = false
+moves_region (Dropped k) = false
+moves_region (Evicted k why) = false
+moves_region (Hint k answer.Present) = false
+moves_region (Hint k answer.Pending) = false
+moves_region (Hint k answer.Full) = false
+moves_region (Hint k answer.Closed) = false
+moves_region e = true
+
+-- an entry that changes nothing of any region
+pub unmoved : (s : Setup) (h : History Entry) (o : ℕ) (e : Entry) (r : ℕ) → moves_region e ≡ false → SameRegion s h ((o, e) ∷ h) r
+unmoved s h o (Raised k y) r n = absurd cc
+unmoved s h o (Hint k answer.Raised) r n = absurd cc
+unmoved s h o (StartRead k) r n = absurd cc
+unmoved s h o (StartWrite k y) r n = absurd cc
+unmoved s h o (Filled k) r n = absurd cc
+unmoved s h o (ReadFailed k m) r n = absurd cc
+unmoved s h o (WriteFailed k m) r n = absurd cc
+unmoved s h o (Written k at bytes) r n = absurd cc
+unmoved s h o (Closing q) r n = absurd cc
+unmoved s h o (Unmapped q) r n = absurd cc
+unmoved s h o e r n = record { flight = refl; why = λ j jr x. refl; keeps = λ j jr. refl; fault = refl; closing = refl; unmapped = refl; read_faults = λ p. refl }

@@ -96,65 +96,90 @@ abbrev pub FreshStands : Type 0
 FreshStands = (s : Setup) → Fits s → StandsFor [] (step.fresh s)
 
 abbrev pub LoadStands : Type 0
-LoadStands = (h : History Entry) (o : ℕ) (c : Core) (k : Key) (place : ℕ) (bytes : List ℕ) → StandsFor h c → CanLoad c k place bytes
+LoadStands =
+    (h : History Entry) (o : ℕ) (c : Core) (k : Key) (place : ℕ) (bytes : List ℕ)
+    → StandsFor h c → CanLoad c k place bytes
     → StandsFor ((o, entry.Load k place bytes) ∷ h) (step.load c)
 
 abbrev pub SaveStands : Type 0
-SaveStands = (h : History Entry) (o : ℕ) (c : Core) (k : Key) (place : ℕ) (bytes : List ℕ) → StandsFor h c → CanSave c k place bytes
+SaveStands =
+    (h : History Entry) (o : ℕ) (c : Core) (k : Key) (place : ℕ) (bytes : List ℕ)
+    → StandsFor h c → CanSave c k place bytes
     → StandsFor ((o, entry.Save k place bytes) ∷ h) (step.save c k place bytes)
 
 abbrev pub RaiseStands : Type 0
-RaiseStands = (h : History Entry) (o : ℕ) (c : Core) (k : Key) (why : Why) → StandsFor h c → CanRaise c k why
-    → StandsFor ((o, entry.Raised k why) ∷ h) (step.raise c k why)
+RaiseStands =
+    (h : History Entry) (o : ℕ) (c : Core) (k : Key) (why : Why)
+    → StandsFor h c → CanRaise c k why → StandsFor ((o, entry.Raised k why) ∷ h) (step.raise c k why)
 
 abbrev pub StartReadStands : Type 0
-StartReadStands = (h : History Entry) (o : ℕ) (c : Core) (k : Key) → StandsFor h c → next c ≡ serve.Read k
+StartReadStands =
+    (h : History Entry) (o : ℕ) (c : Core) (k : Key)
+    → StandsFor h c → next c ≡ serve.Read k
     → StandsFor ((o, entry.StartRead k) ∷ h) (step.start_read c k)
 
 abbrev pub FilledStands : Type 0
-FilledStands = (h : History Entry) (o : ℕ) (c : Core) (t : Trip) (bytes : List ℕ) (lane : LaneSeen) → StandsFor h c → IsOpenRead c.setup h o t
-    → SameLane t.taken lane → HoldsPage t.taken t.key.page bytes
+FilledStands =
+    (h : History Entry) (o : ℕ) (c : Core) (t : Trip) (bytes : List ℕ) (lane : LaneSeen)
+    → StandsFor h c → IsOpenRead c.setup h o t → SameLane t.taken lane
+    → HoldsPage t.taken t.key.page bytes
     → StandsFor ((o, entry.Filled t.key) ∷ h) (step.filled c t.key bytes lane)
 
 abbrev pub ReadFailedStands : Type 0
-ReadFailedStands = (h : History Entry) (o : ℕ) (c : Core) (t : Trip) (lane : LaneSeen) → StandsFor h c → IsOpenRead c.setup h o t
-    → SameLane t.taken lane → Rose t.taken.count lane.count → lane.count < 2 ^ 64
+ReadFailedStands =
+    (h : History Entry) (o : ℕ) (c : Core) (t : Trip) (lane : LaneSeen)
+    → StandsFor h c → IsOpenRead c.setup h o t → SameLane t.taken lane → Rose t.taken.count lane.count
+    → lane.count < 2 ^ 64
     → StandsFor ((o, entry.ReadFailed t.key lane.count) ∷ h) (step.read_failed c t.key lane lane.count)
 
 abbrev pub OpenPageStands : Type 0
-OpenPageStands = (h : History Entry) (o : ℕ) (c : Core) (k : Key) → StandsFor h c → next c ≡ serve.Open k
-    → StandsFor ((o, entry.Opened k) ∷ h) (step.open_page c k)
+OpenPageStands =
+    (h : History Entry) (o : ℕ) (c : Core) (k : Key)
+    → StandsFor h c → next c ≡ serve.Open k → StandsFor ((o, entry.Opened k) ∷ h) (step.open_page c k)
 
 abbrev pub DropRaiseStands : Type 0
-DropRaiseStands = (h : History Entry) (o : ℕ) (c : Core) (k : Key) → StandsFor h c → next c ≡ serve.Drop k
-    → StandsFor ((o, entry.Dropped k) ∷ h) (step.drop_raise c k)
+DropRaiseStands =
+    (h : History Entry) (o : ℕ) (c : Core) (k : Key)
+    → StandsFor h c → next c ≡ serve.Drop k → StandsFor ((o, entry.Dropped k) ∷ h) (step.drop_raise c k)
 
 abbrev pub StartWriteStands : Type 0
-StartWriteStands = (h : History Entry) (o : ℕ) (c : Core) (k : Key) (why : Cause) → StandsFor h c → CanStartWrite c k why
+StartWriteStands =
+    (h : History Entry) (o : ℕ) (c : Core) (k : Key) (why : Cause)
+    → StandsFor h c → CanStartWrite c k why
     → StandsFor ((o, entry.StartWrite k why) ∷ h) (step.start_write c k)
 
 abbrev pub WrittenStands : Type 0
-WrittenStands = (h : History Entry) (o : ℕ) (c : Core) (t : Trip) (bytes : List ℕ) (lane : LaneSeen) → StandsFor h c → IsOpenWrite c.setup h o t
-    → WritesTaken c.setup h t.key bytes → WithPage t.key.page bytes t.taken lane
+WrittenStands =
+    (h : History Entry) (o : ℕ) (c : Core) (t : Trip) (bytes : List ℕ) (lane : LaneSeen)
+    → StandsFor h c → IsOpenWrite c.setup h o t → WritesTaken c.setup h t.key bytes
+    → WithPage t.key.page bytes t.taken lane
     → StandsFor ((o, entry.Written t.key t.at bytes) ∷ h) (step.written c t.key lane)
 
 abbrev pub WriteFailedStands : Type 0
-WriteFailedStands = (h : History Entry) (o : ℕ) (c : Core) (t : Trip) (lane : LaneSeen) → StandsFor h c → IsOpenWrite c.setup h o t
-    → OtherPages t.key.page t.taken lane → Rose t.taken.count lane.count → lane.count < 2 ^ 64
+WriteFailedStands =
+    (h : History Entry) (o : ℕ) (c : Core) (t : Trip) (lane : LaneSeen)
+    → StandsFor h c → IsOpenWrite c.setup h o t → OtherPages t.key.page t.taken lane
+    → Rose t.taken.count lane.count → lane.count < 2 ^ 64
     → StandsFor ((o, entry.WriteFailed t.key lane.count) ∷ h) (step.write_failed c t.key lane)
 
 abbrev pub EvictStands : Type 0
-EvictStands = (h : History Entry) (o : ℕ) (c : Core) (k : Key) (why : Cause) → StandsFor h c → CanEvict c k why
-    → StandsFor ((o, entry.Evicted k why) ∷ h) (step.evict c k)
+EvictStands =
+    (h : History Entry) (o : ℕ) (c : Core) (k : Key) (why : Cause)
+    → StandsFor h c → CanEvict c k why → StandsFor ((o, entry.Evicted k why) ∷ h) (step.evict c k)
 
 abbrev pub HintStands : Type 0
-HintStands = (h : History Entry) (o : ℕ) (c : Core) (k : Key) → StandsFor h c → has_page c.setup k ≡ true
+HintStands =
+    (h : History Entry) (o : ℕ) (c : Core) (k : Key)
+    → StandsFor h c → has_page c.setup k ≡ true
     → StandsFor ((o, entry.Hint k (hint_answer c k)) ∷ h) (step.hint c k)
 
 abbrev pub ClosingStands : Type 0
-ClosingStands = (h : History Entry) (o : ℕ) (c : Core) (r : ℕ) → StandsFor h c → r < regions c.setup → is_closing c r ≡ false
+ClosingStands =
+    (h : History Entry) (o : ℕ) (c : Core) (r : ℕ)
+    → StandsFor h c → r < regions c.setup → is_closing c r ≡ false
     → StandsFor ((o, entry.Closing r) ∷ h) (step.closing c r)
 
 abbrev pub UnmappedStands : Type 0
-UnmappedStands = (h : History Entry) (o : ℕ) (c : Core) (r : ℕ) → StandsFor h c → CanUnmap c r
-    → StandsFor ((o, entry.Unmapped r) ∷ h) (step.unmapped c r)
+UnmappedStands =
+    (h : History Entry) (o : ℕ) (c : Core) (r : ℕ)
+    → StandsFor h c → CanUnmap c r → StandsFor ((o, entry.Unmapped r) ∷ h) (step.unmapped c r)

@@ -16,15 +16,23 @@ pub record InFlight : Type 0 where
   pub key : Key
   pub writes : Bool
 
+-- in region r: this start, where it is of r, else what was in flight
+abbrev pub started : InFlight → ℕ → Option InFlight → Option InFlight
+started t r before = if t.key.region == r then Some t else before
+
+-- in region r: nothing, where this page is of r, else what was in flight
+abbrev pub ended : Key → ℕ → Option InFlight → Option InFlight
+ended k r before = if k.region == r then None else before
+
 -- the last start of a page of region r, where no end of a page of r stands after it
 abbrev pub in_flight : History Entry → ℕ → Option InFlight
 in_flight [] r = None
-in_flight ((o, StartRead k) ∷ h) r = if k.region == r then Some (record { before = h; owner = o; key = k; writes = false }) else in_flight h r
-in_flight ((o, StartWrite k why) ∷ h) r = if k.region == r then Some (record { before = h; owner = o; key = k; writes = true }) else in_flight h r
-in_flight ((o, Filled k) ∷ h) r = if k.region == r then None else in_flight h r
-in_flight ((o, ReadFailed k n) ∷ h) r = if k.region == r then None else in_flight h r
-in_flight ((o, Written k at bytes) ∷ h) r = if k.region == r then None else in_flight h r
-in_flight ((o, WriteFailed k n) ∷ h) r = if k.region == r then None else in_flight h r
+in_flight ((o, StartRead k) ∷ h) r = started (record { before = h; owner = o; key = k; writes = false }) r (in_flight h r)
+in_flight ((o, StartWrite k why) ∷ h) r = started (record { before = h; owner = o; key = k; writes = true }) r (in_flight h r)
+in_flight ((o, Filled k) ∷ h) r = ended k r (in_flight h r)
+in_flight ((o, ReadFailed k n) ∷ h) r = ended k r (in_flight h r)
+in_flight ((o, Written k at bytes) ∷ h) r = ended k r (in_flight h r)
+in_flight ((o, WriteFailed k n) ∷ h) r = ended k r (in_flight h r)
 in_flight (e ∷ h) r = in_flight h r
 
 -- the region's lane is home

@@ -33,15 +33,22 @@ PrefixIsLegal = (s : Setup) (g h : History Entry) → GoesOn g h → IsLegal s h
 
 -- never more pages resident or being read than the stripe has frames
 abbrev pub NeverOverQuota : Type 0
-NeverOverQuota = (s : Setup) (h : History Entry) → IsLegal s h → length (residents h) + reads_out s h ≤ frames_held s h
+NeverOverQuota =
+    (s : Setup) (h : History Entry)
+    → IsLegal s h → length (residents h) + reads_out s h ≤ frames_held s h
 
 -- a load, wherever it stands, gives what its page held there
 abbrev pub LoadsAreFlat : Type 0
-LoadsAreFlat = (s : Setup) (later g : History Entry) (o place : ℕ) (k : Key) (bytes : List ℕ) → IsLegal s (later ++ (o, Load k place bytes) ∷ g) → LoadsLatest s g k place bytes
+LoadsAreFlat =
+    (s : Setup) (later g : History Entry) (o place : ℕ) (k : Key) (bytes : List ℕ)
+    → IsLegal s (later ++ (o, Load k place bytes) ∷ g) → LoadsLatest s g k place bytes
 
 -- a write that ended well, wherever it stands, wrote what its page held at place `at`, where it started
 abbrev pub WritesAreTaken : Type 0
-WritesAreTaken = (s : Setup) (later g : History Entry) (o at : ℕ) (k : Key) (bytes : List ℕ) → IsLegal s (later ++ (o, Written k at bytes) ∷ g) → OnTrue (is_told s k) (bytes ≡ flat s (first at g) k)
+WritesAreTaken =
+    (s : Setup) (later g : History Entry) (o at : ℕ) (k : Key) (bytes : List ℕ)
+    → IsLegal s (later ++ (o, Written k at bytes) ∷ g)
+    → OnTrue (is_told s k) (bytes ≡ flat s (first at g) k)
 
 -- the start of what is in flight stands in the history, and no end of its region stands after it
 pub record Started (h : History Entry) (r : ℕ) (t : InFlight) : Type 0 where
@@ -70,21 +77,27 @@ pub record IsHeld (h later : History Entry) (k : Key) : Type 0 where
 
 -- a Save stands below the start of a finished write of its page, or its page is held since
 abbrev pub StoresAreHeld : Type 0
-StoresAreHeld = (s : Setup) (later g : History Entry) (o place : ℕ) (k : Key) (bytes : List ℕ) → IsLegal s (later ++ (o, Save k place bytes) ∷ g)
+StoresAreHeld =
+    (s : Setup) (later g : History Entry) (o place : ℕ) (k : Key) (bytes : List ℕ)
+    → IsLegal s (later ++ (o, Save k place bytes) ∷ g)
     → (written_since (later ++ (o, Save k place bytes) ∷ g) k (length g) ≡ true) ⊎ IsHeld (later ++ (o, Save k place bytes) ∷ g) later k
 
 -- ---- protection tracks dirtiness, and a waiting fault is served or has room made
 
 -- a page that may be stored to is dirty
 abbrev pub UnprotectedIsDirty : Type 0
-UnprotectedIsDirty = (s : Setup) (h : History Entry) (k : Key) → IsLegal s h → is_protected h k ≡ false → is_dirty h k ≡ true
+UnprotectedIsDirty =
+    (s : Setup) (h : History Entry) (k : Key)
+    → IsLegal s h → is_protected h k ≡ false → is_dirty h k ≡ true
 
 abbrev pub asks_open : Key → Raise → Bool
 asks_open k p = is_protected_why p.why && same p.key k
 
 -- a page that waits to be opened is protected
 abbrev pub WaitingIsProtected : Type 0
-WaitingIsProtected = (s : Setup) (h : History Entry) (k : Key) → IsLegal s h → list_any (asks_open k) (pending h) ≡ true → is_protected h k ≡ true
+WaitingIsProtected =
+    (s : Setup) (h : History Entry) (k : Key)
+    → IsLegal s h → list_any (asks_open k) (pending h) ≡ true → is_protected h k ≡ true
 
 pub record GoesAhead (s : Setup) (h : History Entry) : Type 0 where
   pub something : next_of s h ≡ serve.Nothing → ⊥
@@ -92,13 +105,18 @@ pub record GoesAhead (s : Setup) (h : History Entry) : Type 0 where
 
 -- while every lane is home and a fault is pending, there is something to do; where it is to make room, there is a victim
 abbrev pub SomethingIsNext : Type 0
-SomethingIsNext = (s : Setup) (h : History Entry) → Fits s → IsLegal s h → ((r : ℕ) → is_home h r ≡ true) → 0 < length (pending h) → GoesAhead s h
+SomethingIsNext =
+    (s : Setup) (h : History Entry)
+    → Fits s → IsLegal s h → ((r : ℕ) → is_home h r ≡ true) → 0 < length (pending h) → GoesAhead s h
 
 -- ---- an evicted page is whole in the store
 
 -- what the store keeps of a told page that isn't resident is known, and is what the page holds
 abbrev pub AbsentIsKept : Type 0
-AbsentIsKept = (s : Setup) (h : History Entry) (k : Key) → Fits s → IsLegal s h → has_page s k ≡ true → is_told s k ≡ true → is_resident h k ≡ false → kept s h k ≡ Some (flat s h k)
+AbsentIsKept =
+    (s : Setup) (h : History Entry) (k : Key)
+    → Fits s → IsLegal s h → has_page s k ≡ true → is_told s k ≡ true → is_resident h k ≡ false
+    → kept s h k ≡ Some (flat s h k)
 
 -- ---- only its owner ends an I/O in flight
 
@@ -117,11 +135,16 @@ pub record StaysOut (s : Setup) (g h : History Entry) (r : ℕ) (t : InFlight) :
   pub last_is : last_fault s h r ≡ last_fault s g r
 
 abbrev pub LaneStaysOut : Type 0
-LaneStaysOut = (s : Setup) (later g : History Entry) (r : ℕ) (t : InFlight) → IsLegal s (later ++ g) → in_flight g r ≡ Some t → list_any (ends r t.owner) later ≡ false → StaysOut s g (later ++ g) r t
+LaneStaysOut =
+    (s : Setup) (later g : History Entry) (r : ℕ) (t : InFlight)
+    → IsLegal s (later ++ g) → in_flight g r ≡ Some t → list_any (ends r t.owner) later ≡ false
+    → StaysOut s g (later ++ g) r t
 
 -- where no owner's own calls have something in flight in the region, its lane is home
 abbrev pub IdleLaneIsHome : Type 0
-IdleLaneIsHome = (h : History Entry) (r : ℕ) → ((o : ℕ) → is_home (by o (calls_of o h)) r ≡ true) → is_home h r ≡ true
+IdleLaneIsHome =
+    (h : History Entry) (r : ℕ)
+    → ((o : ℕ) → is_home (by o (calls_of o h)) r ≡ true) → is_home h r ≡ true
 
 -- ---- nothing of a closing region but what unmapping needs
 
@@ -136,17 +159,22 @@ uses r (StartRead k) = k.region == r
 uses r e = false
 
 abbrev pub NothingAfterClosing : Type 0
-NothingAfterClosing = (s : Setup) (h : History Entry) (o : ℕ) (e : Entry) (r : ℕ) → MayFollow s h o e → is_closing h r ≡ true → uses r e ≡ false
+NothingAfterClosing =
+    (s : Setup) (h : History Entry) (o : ℕ) (e : Entry) (r : ℕ)
+    → MayFollow s h o e → is_closing h r ≡ true → uses r e ≡ false
 
 -- ---- what a flush rests on
 
 pub record FlushLaws : Type 0 where
   -- where a page is clean, its earlier stores are covered
-  pub clean_is_covered : (s : Setup) (h seen : History Entry) (k : Key) → GoesOn seen h → IsLegal s h → is_dirty h k ≡ false → is_page_covered h k seen ≡ true
+  pub clean_is_covered : (s : Setup) (h seen : History Entry) (k : Key) → GoesOn seen h → IsLegal s h
+      → is_dirty h k ≡ false → is_page_covered h k seen ≡ true
   -- so they stay
-  pub stays_covered : (g h seen : History Entry) (k : Key) → GoesOn g h → is_page_covered g k seen ≡ true → is_page_covered h k seen ≡ true
+  pub stays_covered : (g h seen : History Entry) (k : Key) → GoesOn g h
+      → is_page_covered g k seen ≡ true → is_page_covered h k seen ≡ true
   -- and with all pages it is flushed
-  pub covered_is_flushed : (h seen : History Entry) → ((k : Key) → is_page_covered h k seen ≡ true) → IsFlushed h seen
+  pub covered_is_flushed : (h seen : History Entry) → ((k : Key) → is_page_covered h k seen ≡ true)
+      → IsFlushed h seen
 
 -- ---- what callers of a stripe need across two holds
 
@@ -157,8 +185,12 @@ pub record StaysOpen (writes : Bool) (s : Setup) (g h : History Entry) (o : ℕ)
 
 -- an open read or write stays open while others alone make entries
 abbrev pub TripsStayOpen : Type 0
-TripsStayOpen = (writes : Bool) (g h : History Entry) (o : ℕ) (c : Core) (t : Trip) → Others o g h → StandsFor h c → IsOpen writes c.setup g o t → StaysOpen writes c.setup g h o t
+TripsStayOpen =
+    (writes : Bool) (g h : History Entry) (o : ℕ) (c : Core) (t : Trip)
+    → Others o g h → StandsFor h c → IsOpen writes c.setup g o t → StaysOpen writes c.setup g h o t
 
 -- a load gave what its page held, by every later history
 abbrev pub LoadsWereFlat : Type 0
-LoadsWereFlat = (g h : History Entry) (o place : ℕ) (k : Key) (bytes : List ℕ) (c : Core) → GoesOn ((o, Load k place bytes) ∷ g) h → StandsFor h c → LoadsLatest c.setup g k place bytes
+LoadsWereFlat =
+    (g h : History Entry) (o place : ℕ) (k : Key) (bytes : List ℕ) (c : Core)
+    → GoesOn ((o, Load k place bytes) ∷ g) h → StandsFor h c → LoadsLatest c.setup g k place bytes

@@ -1,15 +1,16 @@
 -- What the readers of a core answer, and what its trips and its next service know, read off the history that it stands for.
-use Rattle.std.specs.Prelude.{◌&&◌, ℕ, ◌<◌, true, false, ◌∷◌, length, Some, option_map, ◌≡◌}
+use Rattle.std.specs.Prelude.{◌+◌, ◌≤◌, ◌&&◌, ℕ, ◌<◌, true, false, ◌∷◌, length, Some, option_map, ◌≡◌}
 use Rattle.histories.specs.Histories.{History}
 use Rattle.page_base.specs.declared.keys.Key.{Key}
 use Rattle.page_base.specs.declared.keys.Why.{Why}
+use Rattle.page_base.specs.Lanes as lanes
 use Rattle.page_base.specs.Lanes.{LaneSeen}
 use Rattle.page_model.specs.declared.entry.Entry.{Entry}
 use Rattle.page_model.specs.declared.entry.Entry.TheVariants.{StartRead, StartWrite}
 use Rattle.page_model.specs.declared.entry.Cause.{Cause}
 use Rattle.page_model.specs.declared.seen.Next.TheVariants as serve
 use Rattle.page_model.specs.declared.seen.Pick.{Pick}
-use Rattle.page_model.specs.Setups.{regions, has_page}
+use Rattle.page_model.specs.Setups.{Setup, Fits, regions, has_page}
 use Rattle.page_model.specs.InFlight.{is_home, is_reading, is_writing}
 use Rattle.page_model.specs.Residents.{residents, is_resident, free_frames, oldest_of}
 use Rattle.page_model.specs.Faults.{is_pending}
@@ -55,8 +56,10 @@ pub record StripeReads (h : History Entry) (c : Core) : Type 0 where
   pub pick : core.pick c ≡ option_map (picked h) (victim h)
 
 pub record ReadersAgree : Type 0 where
-  pub pages : (h : History Entry) (c : Core) (k : Key) → StandsFor h c → has_page c.setup k ≡ true → PageReads h c k
-  pub regions : (h : History Entry) (c : Core) (r : ℕ) → StandsFor h c → r < regions c.setup → RegionReads h c r
+  pub pages : (h : History Entry) (c : Core) (k : Key) → StandsFor h c → has_page c.setup k ≡ true
+      → PageReads h c k
+  pub regions : (h : History Entry) (c : Core) (r : ℕ) → StandsFor h c → r < regions c.setup
+      → RegionReads h c r
   pub stripe : (h : History Entry) (c : Core) → StandsFor h c → StripeReads h c
 
 -- ---- what is known where a service may start
@@ -66,6 +69,11 @@ pub record IsHere (c : Core) (r : ℕ) (lane : LaneSeen) : Type 0 where
   pub region : RegionSeen
   pub is : region_at c r ≡ Some region
   pub home : region.place ≡ Home lane
+
+-- the lane may be asked for this page, by pages of this size
+pub record LaneHas (s : Setup) (k : Key) (lane : LaneSeen) : Type 0 where
+  pub page : lanes.has_page lane.origin k.page ≡ true
+  pub page_size : lane.origin.page_size ≡ s.page_size
 
 -- a page that may be read in
 pub record ReadyToRead (h : History Entry) (c : Core) (k : Key) : Type 0 where
@@ -98,18 +106,31 @@ pub record IsWriteOut (c : Core) (t : Trip) : Type 0 where
   pub out : region.place ≡ Writing t.key t.at
 
 pub record ServiceKnows : Type 0 where
-  pub read : (h : History Entry) (c : Core) (k : Key) → StandsFor h c → core.next c ≡ serve.Read k → ReadyToRead h c k
-  pub open_ : (h : History Entry) (c : Core) (k : Key) → StandsFor h c → core.next c ≡ serve.Open k → ReadyToOpen c k
-  pub drop : (h : History Entry) (c : Core) (k : Key) → StandsFor h c → core.next c ≡ serve.Drop k → core.is_pending c k ≡ true
-  pub present : (h : History Entry) (c : Core) (k : Key) → StandsFor h c → core.is_present c k ≡ true → has_page c.setup k ≡ true
+  pub read : (h : History Entry) (c : Core) (k : Key) → StandsFor h c → core.next c ≡ serve.Read k
+      → ReadyToRead h c k
+  pub open_ : (h : History Entry) (c : Core) (k : Key) → StandsFor h c → core.next c ≡ serve.Open k
+      → ReadyToOpen c k
+  pub drop : (h : History Entry) (c : Core) (k : Key) → StandsFor h c → core.next c ≡ serve.Drop k
+      → core.is_pending c k ≡ true
+  pub present : (h : History Entry) (c : Core) (k : Key) → StandsFor h c → core.is_present c k ≡ true
+      → has_page c.setup k ≡ true
   pub here : (c : Core) (r : ℕ) → core.is_home c r ≡ true → (lane : LaneSeen) × IsHere c r lane
-  pub like : (h : History Entry) (c : Core) (r : ℕ) (lane : LaneSeen) → StandsFor h c → IsHere c r lane → HomeLane c.setup h r lane
-  pub read_out : (h : History Entry) (o : ℕ) (c : Core) (t : Trip) → StandsFor h c → IsOpenRead c.setup h o t → IsReadOut c t
-  pub write_out : (h : History Entry) (o : ℕ) (c : Core) (t : Trip) → StandsFor h c → IsOpenWrite c.setup h o t → IsWriteOut c t
+  pub like : (h : History Entry) (c : Core) (r : ℕ) (lane : LaneSeen) → StandsFor h c → IsHere c r lane
+      → HomeLane c.setup h r lane
+  pub lane_has : (s : Setup) (h : History Entry) (k : Key) (lane : LaneSeen) → Fits s
+      → has_page s k ≡ true → HomeLane s h k.region lane → LaneHas s k lane
+  pub within : (h : History Entry) (c : Core) → StandsFor h c
+      → length c.pages + core.reads_out c ≤ core.frames_held c
+  pub read_out : (h : History Entry) (o : ℕ) (c : Core) (t : Trip) → StandsFor h c
+      → IsOpenRead c.setup h o t → IsReadOut c t
+  pub write_out : (h : History Entry) (o : ℕ) (c : Core) (t : Trip) → StandsFor h c
+      → IsOpenWrite c.setup h o t → IsWriteOut c t
 
 -- the start of a read or a write is open, with the lane that was home
 pub record StartsOpen : Type 0 where
-  pub read : (h : History Entry) (o : ℕ) (c : Core) (k : Key) (lane : LaneSeen) → StandsFor h c → IsHere c k.region lane
+  pub read : (h : History Entry) (o : ℕ) (c : Core) (k : Key) (lane : LaneSeen) → StandsFor h c
+      → IsHere c k.region lane
       → IsOpenRead c.setup ((o, StartRead k) ∷ h) o (record { key = k; at = c.events; taken = lane })
-  pub write : (h : History Entry) (o : ℕ) (c : Core) (k : Key) (why : Cause) (lane : LaneSeen) → StandsFor h c → IsHere c k.region lane
+  pub write : (h : History Entry) (o : ℕ) (c : Core) (k : Key) (why : Cause) (lane : LaneSeen)
+      → StandsFor h c → IsHere c k.region lane
       → IsOpenWrite c.setup ((o, StartWrite k why) ∷ h) o (record { key = k; at = c.events; taken = lane })

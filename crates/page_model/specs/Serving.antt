@@ -22,7 +22,10 @@ is_stale h p = is_closing h p.key.region || is_protected_why p.why && not (is_re
 
 -- a fault that can be served now: its page is protected and to be opened, or is to be read into a free frame by a lane that is home
 abbrev pub is_servable : Setup → History Entry → Raise → Bool
-is_servable s h p = if is_protected_why p.why then is_resident h p.key && is_protected h p.key else nat_lt 0 (free_frames s h) && is_home h p.key.region
+is_servable s h p =
+    if is_protected_why p.why
+    then is_resident h p.key && is_protected h p.key
+    else nat_lt 0 (free_frames s h) && is_home h p.key.region
 
 -- a read that waits, with its lane home
 abbrev pub waits_for_room : History Entry → Raise → Bool
@@ -36,7 +39,9 @@ chosen None None waiting = if waiting then serve.Room else serve.Nothing
 
 -- the first stale fault is dropped; else the first servable one is served; else a read may wait for room
 abbrev pub next_of : Setup → History Entry → Next
-next_of s h = chosen (find (is_stale h) (pending h)) (find (is_servable s h) (pending h)) (list_any (waits_for_room h) (pending h))
+next_of s h =
+    chosen (find (is_stale h) (pending h)) (find (is_servable s h) (pending h))
+    (list_any (waits_for_room h) (pending h))
 
 -- the first answer that applies
 abbrev pub first_answer : (closing present pending full : Bool) → HintAnswer
@@ -47,4 +52,6 @@ first_answer closing present pending full =
     (if full then answer.Full else answer.Raised)))
 
 abbrev pub hint_answer : Setup → History Entry → Key → HintAnswer
-hint_answer s h k = first_answer (is_closing h k.region) (is_resident h k) (is_pending h k || is_reading h k) (nat_le s.faults (length (pending h)))
+hint_answer s h k =
+    first_answer (is_closing h k.region) (is_resident h k) (is_pending h k || is_reading h k)
+    (nat_le s.faults (length (pending h)))

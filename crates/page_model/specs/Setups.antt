@@ -67,11 +67,24 @@ first_count s r = count_by (slice_get s.lanes r)
 abbrev pub origin_of : Setup → ℕ → Option Origin
 origin_of s r = option_map (λ (lane : LaneSeen). lane.origin) (slice_get s.lanes r)
 
+-- the lane is the stripe's share of region r, which has this shape
+pub record IsLaneOf (s : Setup) (r : ℕ) (shape : RegionShape) (origin : Origin) : Type 0 where
+  pub region : origin.region ≡ r
+  pub pages : origin.pages ≡ shape.pages
+  pub page_size : origin.page_size ≡ s.page_size
+  pub group : origin.group ≡ shape.group
+  pub stripes : origin.stripes ≡ s.stripes
+  pub stripe : origin.stripe ≡ s.number
+
 -- A setup that fits together. Whoever makes a stripe has to know it.
 pub record Fits (s : Setup) : Type 0 where
+  pub some_bytes : 0 < s.page_size
   pub some_frame : 0 < quota s
   pub some_fault : 0 < s.faults
   pub marks : s.low < s.high
   pub percent : s.high ≤ 100
   pub lanes : length s.lanes ≡ length s.shapes  -- one lane a region
-  pub page_bytes : (k : Key) (bytes : List ℕ) → has_page s k ≡ true → base_of s k ≡ Some bytes → length bytes ≡ s.page_size
+  pub lane_of : (r : ℕ) (shape : RegionShape) (lane : LaneSeen) → slice_get s.shapes r ≡ Some shape
+      → slice_get s.lanes r ≡ Some lane → IsLaneOf s r shape lane.origin
+  pub page_bytes : (k : Key) (bytes : List ℕ) → has_page s k ≡ true → base_of s k ≡ Some bytes
+      → length bytes ≡ s.page_size

@@ -33,8 +33,10 @@ PageStands s h r =
 -- still told, and as kept where that is known; and as many faults at least as any entry of the region says
 pub record HomeLane (s : Setup) (h : History Entry) (r : ℕ) (lane : LaneSeen) : Type 0 where
   pub origin : origin_of s r ≡ Some lane.origin
-  pub told : (p : ℕ) → has_page s (page_of r p) ≡ true → is_told s (page_of r p) ≡ true → is_some (told_at lane.told p) ≡ true
-  pub kept : (p : ℕ) (bytes : List ℕ) → has_page s (page_of r p) ≡ true → is_told s (page_of r p) ≡ true → kept s h (page_of r p) ≡ Some bytes → told_at lane.told p ≡ Some bytes
+  pub told : (p : ℕ) → has_page s (page_of r p) ≡ true → is_told s (page_of r p) ≡ true
+      → is_some (told_at lane.told p) ≡ true
+  pub kept : (p : ℕ) (bytes : List ℕ) → has_page s (page_of r p) ≡ true → is_told s (page_of r p) ≡ true
+      → kept s h (page_of r p) ≡ Some bytes → told_at lane.told p ≡ Some bytes
   pub count : last_fault s h r ≤ lane.count
 
 -- region r has I/O in flight, of page k, started at place `at`

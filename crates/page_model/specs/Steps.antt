@@ -25,7 +25,16 @@ fresh_regions (shape ∷ shapes) (lane ∷ lanes) = fresh_region shape lane ∷ 
 
 -- a stripe that has just been made
 abbrev pub fresh : Setup → Core
-fresh s = record { setup = s; pages = []; queue = []; regions = fresh_regions s.shapes s.lanes; evicting = false; counts = no_counts; events = 0 }
+fresh s =
+    record {
+      setup = s;
+      pages = [];
+      queue = [];
+      regions = fresh_regions s.shapes s.lanes;
+      evicting = false;
+      counts = no_counts;
+      events = 0;
+    }
 
 -- ---- the kinds of change
 
@@ -51,7 +60,11 @@ abbrev pub load : Core → Core
 load c = record c { events = c.events + 1 }
 
 abbrev pub save : Core → Key → ℕ → List ℕ → Core
-save c k place bytes = record c { pages = on_page k (λ r. record r { bytes = spliced r.bytes place bytes }) c.pages; events = c.events + 1 }
+save c k place bytes =
+    record c {
+      pages = on_page k (λ r. record r { bytes = spliced r.bytes place bytes }) c.pages;
+      events = c.events + 1;
+    }
 
 abbrev pub raise : Core → Key → Why → Core
 raise c k why = record c { queue = c.queue ++ record { key = k; why = why } ∷ []; events = c.events + 1 }

@@ -1,5 +1,5 @@
 -- Trips: a lane that is out of its stripe for one read or one write, and what it may be like when it comes back.
-use Rattle.std.specs.Prelude.{ℕ, ◌+◌, ◌-◌, ◌^◌, ◌≤◌, ◌≢◌, min, Bool, true, false, List, length, Some, is_some, ◌≡◌}
+use Rattle.std.specs.Prelude.{ℕ, ◌≤◌, ◌≢◌, Bool, true, false, List, length, Some, is_some, ◌≡◌}
 use Rattle.histories.specs.Histories.{History}
 use Rattle.page_base.specs.declared.keys.Key.{Key}
 use Rattle.page_base.specs.Lanes.{LaneSeen, told_at}

@@ -7,7 +7,7 @@ use Rattle.std.proofs.lemmas.Bool.{le-leb}
 use Rattle.workload_text.specs.Line.{Line}
 use Rattle.workload_text.specs.Grammar.{Said, nothing, after}
 use Rattle.workload_text.specs.Reading.{Refusal, read_line, read_lines, read_text, line_then, before_all, is_line_feed}
-use Rattle.workload_text.specs.State.{Took, said_by, lines_by, with_front}
+use Rattle.workload_text.specs.State.{IsSound, Took, said_by, lines_by, with_front}
 use Rattle.workload_text.specs.declared.refusal.TextKind.{TextKind}
 use Rattle.workload_text.specs.declared.reading.Reading.{Reading}
 
@@ -50,9 +50,9 @@ took_step old new (Ok l) line behind rest whole q e t i =
     ∙ ap (read_lines (length (lines_by old) + 1) (said_by old)) (sym e))
     ∙ i
 
-pub took_kept : (old new : Reading) (read : Result Line TextKind) → IsOkAnd read (λ l. Took old new l) → (l : Line) × Took old new l
-took_kept old new (Err k) t = absurd t
-took_kept old new (Ok l) t = (l, t)
+pub took_sound : (old new : Reading) (read : Result Line TextKind) → IsOkAnd read (λ l. Took old new l) → IsSound new
+took_sound old new (Err k) t = absurd t
+took_sound old new (Ok l) t = t.sound
 
 -- no line is left
 pub last_step : (old : Reading) (rest : List ℕ) (whole : Result (List Line) Refusal) → rest ≡ [] → ReadsOn old rest whole → whole ≡ Ok (lines_by old)

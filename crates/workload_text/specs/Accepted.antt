@@ -8,7 +8,7 @@ use Rattle.workload_text.specs.Grammar.{Region, size_at, writable_at}
 -- the regions of the `map` lines, in order
 abbrev pub regions_of : List Line → List Region
 regions_of [] = []
-regions_of (map_line name kept size writable ∷ ls) = record { name = name; size = size; writable = writable } ∷ regions_of ls
+regions_of (map_line name backing size writable ∷ ls) = record { name = name; size = size; writable = writable } ∷ regions_of ls
 regions_of (l ∷ ls) = regions_of ls
 
 abbrev pub script_count : List Line → ℕ
@@ -18,7 +18,7 @@ script_count (l ∷ ls) = script_count ls
 
 abbrev pub command_count : List Line → ℕ
 command_count [] = 0
-command_count (map_line name kept size writable ∷ ls) = command_count ls
+command_count (map_line name backing size writable ∷ ls) = command_count ls
 command_count (script_line name ∷ ls) = command_count ls
 command_count (l ∷ ls) = 1 + command_count ls
 

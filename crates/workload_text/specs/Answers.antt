@@ -10,7 +10,7 @@ use Rattle.workload_text.specs.declared.refusal.TextFault.TheVariants.{Refused, 
 -- line of the text is one of them
 abbrev pub numbers_of_maps : ℕ → List Line → List ℕ
 numbers_of_maps n [] = []
-numbers_of_maps n (map_line name kept size writable ∷ ls) = n ∷ numbers_of_maps (n + 1) ls
+numbers_of_maps n (map_line name backing size writable ∷ ls) = n ∷ numbers_of_maps (n + 1) ls
 numbers_of_maps n (l ∷ ls) = numbers_of_maps (n + 1) ls
 
 -- n, n + 1 and so on, so many numbers

@@ -27,7 +27,7 @@ nothing = record { regions = []; scripts = []; commands = 0; loaded = 0 }
 
 -- what they have said with one more line
 abbrev pub after : Said → Line → Said
-after s (map_line name kept size writable) = record s { regions = s.regions ++ record { name = name; size = size; writable = writable } ∷ [] }
+after s (map_line name backing size writable) = record s { regions = s.regions ++ record { name = name; size = size; writable = writable } ∷ [] }
 after s (script_line name) = record s { scripts = s.scripts ++ name ∷ [] }
 after s (load_line r off len) = record s { commands = s.commands + 1; loaded = s.loaded + len }
 after s l = record s { commands = s.commands + 1 }

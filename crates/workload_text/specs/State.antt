@@ -52,13 +52,17 @@ abbrev pub Begun : Option Script → List Script → Type 0
 Begun None scripts = scripts ≡ []
 Begun (Some s) scripts = Unit {0}
 
+-- what every line leaves true
+pub record IsSound (r : Reading) : Type 0 where
+  pub begun : Begun r.current r.scripts.items
+  pub few : length r.maps.items ≤ 64
+  pub small : r.loaded ≤ 33554432
+
 -- the line stands behind those read before it
 pub record Took (old new : Reading) (l : Line) : Type 0 where
   pub lines : lines_by new ≡ lines_by old ++ l ∷ []
   pub says : said_by new ≡ after (said_by old) l
-  pub begun : Begun new.current new.scripts.items
-  pub few : length new.maps.items ≤ 64
-  pub small : new.loaded ≤ 33554432
+  pub sound : IsSound new
 
 -- what is read as a line is taken, what is refused is refused for its kind; want of memory is free
 abbrev pub Takes : {U : Type 0} → Reading → Reading → Result Line TextKind → Result U LineFault → Type 0

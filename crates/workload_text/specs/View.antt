@@ -12,13 +12,13 @@ use Rattle.workload_text.specs.declared.workload.Command.TheVariants.{Load, Stor
 use Rattle.workload_text.specs.declared.workload.Script.{Script}
 use Rattle.workload_text.specs.declared.workload.Workload.{Workload}
 
-abbrev pub kept_of : StoreKind → Backing
-kept_of Memory = in_memory
-kept_of (File path) = in_file path.items
-kept_of (Sparse path file) = in_files path.items file
+abbrev pub backing_of : StoreKind → Backing
+backing_of Memory = in_memory
+backing_of (File path) = in_file path.items
+backing_of (Sparse path file) = in_files path.items file
 
 abbrev pub region_line : MapLine → Line
-region_line m = map_line m.name.items (kept_of m.kind) m.length m.writable
+region_line m = map_line m.name.items (backing_of m.kind) m.length m.writable
 
 abbrev pub command_line : Command → Line
 command_line (Load region off len) = load_line region off len

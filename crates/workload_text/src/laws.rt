@@ -1,7 +1,7 @@
 //! The laws of the language: functions with nothing to do whose contracts are what callers rest on.
 //!
 //! A caller that needs a law calls it beside the values that it speaks of; the call costs nothing.
-ghost use Rattle.std.specs.Prelude.{◌≡◌, ℕ, List, Ok};
+ghost use Rattle.std.specs.Prelude.{◌≡◌, ◌↔◌, ℕ, List, Ok};
 ghost use Rattle.workload_text.specs.Line.{Line};
 ghost use Rattle.workload_text.specs.Grammar.{Spells};
 ghost use Rattle.workload_text.specs.Reading.{read_text};
@@ -9,8 +9,7 @@ ghost use Rattle.workload_text.specs.Accepted.{IsRunnable};
 
 /// The reading function reads exactly what the grammar spells.
 pub fn text_is_read_as_spelt()
-    ensures sound { (bytes : List ℕ) (lines : List Line) → read_text bytes ≡ Ok lines → Spells bytes lines }
-    ensures complete { (bytes : List ℕ) (lines : List Line) → Spells bytes lines → read_text bytes ≡ Ok lines }
+    ensures { (bytes : List ℕ) (lines : List Line) → (read_text bytes ≡ Ok lines) ↔ Spells bytes lines }
 {}
 
 /// A text spells one workload at most.

@@ -8,7 +8,7 @@ ghost use Rattle.std.specs.List.{list_any, slice_split};
 ghost use Rattle.workload_text.specs.Grammar.{nothing, region_from, size_at, writable_at};
 ghost use Rattle.workload_text.specs.View.{lines_of, command_line};
 ghost use Rattle.workload_text.specs.Reading.{read_line, read_two, read_four, read_five, read_script, read_map, read_load, read_store};
-ghost use Rattle.workload_text.specs.State.{region, script_name, Takes, Begun, said_by, lines_by};
+ghost use Rattle.workload_text.specs.State.{region, script_name, Takes, Begun, IsSound, said_by, lines_by};
 
 use crate::cut::{Fields, fields_of};
 use crate::field::{hex_bytes, is_name, mode, number};
@@ -27,6 +27,12 @@ pub struct Reading {
     current: Option<Script>,
     commands: u32,
     loaded: u32,
+}
+
+fn refused(kind: TextKind) -> Result<(), LineFault>
+    ensures { result ≡ Err (LineFault.Refused kind) }
+{
+    Err(LineFault::Refused(kind))
 }
 
 /// Appends an item, where need be to room for as many again as there are.
@@ -82,9 +88,7 @@ impl Reading {
     pub fn new(alloc: Global) -> Reading
         ensures lines { lines_by result ≡ [] }
         ensures said { said_by result ≡ nothing }
-        ensures begun { Begun result.current result.scripts.items }
-        ensures maps { length result.maps.items ≤ 64 }
-        ensures loaded { result.loaded ≤ 33554432 }
+        ensures sound { IsSound result }
     {
         Reading {
             alloc,
@@ -98,25 +102,23 @@ impl Reading {
 
     #[tactic(auto, unfolding(crate::specs::Reading::read_map))]
     fn map(&mut self, name: &[u8], size: &[u8], mode_field: &[u8]) -> Result<(), LineFault>
-        requires begun { Begun self.old.current self.old.scripts.items }
-        requires maps { length self.old.maps.items ≤ 64 }
-        requires loaded { self.old.loaded ≤ 33554432 }
+        requires { IsSound self.old }
         ensures { Takes self.old self.new (read_map (said_by self.old) name.now size.now mode_field.now) result }
     {
         if self.current.is_some() {
-            return Err(LineFault::Refused(TextKind::Order));
+            return refused(TextKind::Order);
         }
         if !is_name(name) {
-            return Err(LineFault::Refused(TextKind::Name));
+            return refused(TextKind::Name);
         }
         let Some(length) = number(size, 1, 16777216) else {
-            return Err(LineFault::Refused(TextKind::Number));
+            return refused(TextKind::Number);
         };
         let Some(writable) = mode(mode_field) else {
-            return Err(LineFault::Refused(TextKind::Mode));
+            return refused(TextKind::Mode);
         };
         if self.maps.len() != 0 {
-            return Err(LineFault::Refused(TextKind::Unbuilt));
+            return refused(TextKind::Unbuilt);
         }
         let name = Bytes::from_slice(self.alloc, name)?;
         push(
@@ -153,19 +155,17 @@ impl Reading {
 
     #[tactic(auto, unfolding(crate::specs::Reading::read_script))]
     fn begin(&mut self, name: &[u8]) -> Result<(), LineFault>
-        requires begun { Begun self.old.current self.old.scripts.items }
-        requires maps { length self.old.maps.items ≤ 64 }
-        requires loaded { self.old.loaded ≤ 33554432 }
+        requires { IsSound self.old }
         ensures { Takes self.old self.new (read_script (said_by self.old) name.now) result }
     {
         if !is_name(name) {
-            return Err(LineFault::Refused(TextKind::Name));
+            return refused(TextKind::Name);
         }
         if self.is_taken(name) {
-            return Err(LineFault::Refused(TextKind::Double));
+            return refused(TextKind::Double);
         }
         if self.is_full() {
-            return Err(LineFault::Refused(TextKind::Many));
+            return refused(TextKind::Many);
         }
         let script = Script {
             name: Bytes::from_slice(self.alloc, name)?,
@@ -203,31 +203,29 @@ impl Reading {
 
     #[tactic(auto, unfolding(crate::specs::Reading::read_load))]
     fn load(&mut self, name: &[u8], off: &[u8], len: &[u8]) -> Result<(), LineFault>
-        requires begun { Begun self.old.current self.old.scripts.items }
-        requires maps { length self.old.maps.items ≤ 64 }
-        requires loaded { self.old.loaded ≤ 33554432 }
+        requires { IsSound self.old }
         ensures { Takes self.old self.new (read_load (said_by self.old) name.now off.now len.now) result }
     {
         if self.current.is_none() {
-            return Err(LineFault::Refused(TextKind::Order));
+            return refused(TextKind::Order);
         }
         if !is_name(name) {
-            return Err(LineFault::Refused(TextKind::Name));
+            return refused(TextKind::Name);
         }
         let Some(off) = number(off, 0, 1099511627776) else {
-            return Err(LineFault::Refused(TextKind::Number));
+            return refused(TextKind::Number);
         };
         let Some(len) = number(len, 0, 65536) else {
-            return Err(LineFault::Refused(TextKind::Number));
+            return refused(TextKind::Number);
         };
         let Some(region) = region_of(self.maps.as_slice(), name) else {
-            return Err(LineFault::Refused(TextKind::Unknown));
+            return refused(TextKind::Unknown);
         };
         if off + len > size_at(self.maps.as_slice(), region as usize) {
-            return Err(LineFault::Refused(TextKind::Range));
+            return refused(TextKind::Range);
         }
         if self.commands >= 262144 || u64::from(self.loaded) + len > 33554432 {
-            return Err(LineFault::Refused(TextKind::Many));
+            return refused(TextKind::Many);
         }
         let len = len as u32;
         self.add(Command::Load { region, off, len }, len)?;
@@ -236,55 +234,51 @@ impl Reading {
 
     #[tactic(auto, unfolding(crate::specs::Reading::read_store))]
     fn store(&mut self, name: &[u8], off: &[u8], hex: &[u8]) -> Result<(), LineFault>
-        requires begun { Begun self.old.current self.old.scripts.items }
-        requires maps { length self.old.maps.items ≤ 64 }
-        requires loaded { self.old.loaded ≤ 33554432 }
+        requires { IsSound self.old }
         ensures { Takes self.old self.new (read_store (said_by self.old) name.now off.now hex.now) result }
     {
         if self.current.is_none() {
-            return Err(LineFault::Refused(TextKind::Order));
+            return refused(TextKind::Order);
         }
         if !is_name(name) {
-            return Err(LineFault::Refused(TextKind::Name));
+            return refused(TextKind::Name);
         }
         let Some(off) = number(off, 0, 1099511627776) else {
-            return Err(LineFault::Refused(TextKind::Number));
+            return refused(TextKind::Number);
         };
         let Some(bytes) = hex_bytes(self.alloc, hex)? else {
-            return Err(LineFault::Refused(TextKind::Hex));
+            return refused(TextKind::Hex);
         };
         let Some(region) = region_of(self.maps.as_slice(), name) else {
-            return Err(LineFault::Refused(TextKind::Unknown));
+            return refused(TextKind::Unknown);
         };
         if off + bytes.len() as u64 > size_at(self.maps.as_slice(), region as usize) {
-            return Err(LineFault::Refused(TextKind::Range));
+            return refused(TextKind::Range);
         }
         if !writable_at(self.maps.as_slice(), region as usize) {
-            return Err(LineFault::Refused(TextKind::ReadOnly));
+            return refused(TextKind::ReadOnly);
         }
         if self.commands >= 262144 {
-            return Err(LineFault::Refused(TextKind::Many));
+            return refused(TextKind::Many);
         }
         self.add(Command::Store { region, off, bytes }, 0)?;
         Ok(())
     }
 
     pub fn line(&mut self, line: &[u8]) -> Result<(), LineFault>
-        requires begun { Begun self.old.current self.old.scripts.items }
-        requires maps { length self.old.maps.items ≤ 64 }
-        requires loaded { self.old.loaded ≤ 33554432 }
+        requires { IsSound self.old }
         ensures { Takes self.old self.new (read_line (said_by self.old) line.now) result }
     {
         match fields_of(line) {
             Fields::Two(word, name) => {
                 if word.is_empty() || name.is_empty() {
-                    return Err(LineFault::Refused(TextKind::Line));
+                    return refused(TextKind::Line);
                 }
                 self.two(word, name)
             }
             Fields::Four(word, name, off, third) => {
                 if word.is_empty() || name.is_empty() || off.is_empty() || third.is_empty() {
-                    return Err(LineFault::Refused(TextKind::Line));
+                    return refused(TextKind::Line);
                 }
                 self.four(word, name, off, third)
             }
@@ -295,33 +289,29 @@ impl Reading {
                     || size.is_empty()
                     || mode.is_empty()
                 {
-                    return Err(LineFault::Refused(TextKind::Line));
+                    return refused(TextKind::Line);
                 }
                 self.five(word, name, kind, size, mode)
             }
-            Fields::Other => Err(LineFault::Refused(TextKind::Unbuilt)),
+            Fields::Other => refused(TextKind::Unbuilt),
         }
     }
 
     #[tactic(auto, unfolding(crate::specs::Reading::read_two))]
     fn two(&mut self, word: &[u8], name: &[u8]) -> Result<(), LineFault>
-        requires begun { Begun self.old.current self.old.scripts.items }
-        requires maps { length self.old.maps.items ≤ 64 }
-        requires loaded { self.old.loaded ≤ 33554432 }
+        requires { IsSound self.old }
         ensures { Takes self.old self.new (read_two (said_by self.old) word.now name.now) result }
     {
         if word == b"script".as_slice() {
             self.begin(name)
         } else {
-            Err(LineFault::Refused(TextKind::Unbuilt))
+            refused(TextKind::Unbuilt)
         }
     }
 
     #[tactic(auto, unfolding(crate::specs::Reading::read_four))]
     fn four(&mut self, word: &[u8], name: &[u8], off: &[u8], third: &[u8]) -> Result<(), LineFault>
-        requires begun { Begun self.old.current self.old.scripts.items }
-        requires maps { length self.old.maps.items ≤ 64 }
-        requires loaded { self.old.loaded ≤ 33554432 }
+        requires { IsSound self.old }
         ensures { Takes self.old self.new (read_four (said_by self.old) word.now name.now off.now third.now) result }
     {
         if word == b"load".as_slice() {
@@ -329,7 +319,7 @@ impl Reading {
         } else if word == b"store".as_slice() {
             self.store(name, off, third)
         } else {
-            Err(LineFault::Refused(TextKind::Unbuilt))
+            refused(TextKind::Unbuilt)
         }
     }
 
@@ -342,15 +332,13 @@ impl Reading {
         size: &[u8],
         mode: &[u8],
     ) -> Result<(), LineFault>
-        requires begun { Begun self.old.current self.old.scripts.items }
-        requires maps { length self.old.maps.items ≤ 64 }
-        requires loaded { self.old.loaded ≤ 33554432 }
+        requires { IsSound self.old }
         ensures { Takes self.old self.new (read_five (said_by self.old) word.now name.now kind.now size.now mode.now) result }
     {
         if word == b"map".as_slice() && kind == b"memory".as_slice() {
             self.map(name, size, mode)
         } else {
-            Err(LineFault::Refused(TextKind::Unbuilt))
+            refused(TextKind::Unbuilt)
         }
     }
 

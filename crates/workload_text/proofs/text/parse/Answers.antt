@@ -3,7 +3,7 @@ use Rattle.std.proofs.lemmas.List.{nil_from_length}
 use Rattle.std.proofs.lemmas.Bool.Decides.{nat_tests}
 use Rattle.workload_text.specs.Grammar.{Spells}
 use Rattle.workload_text.specs.Answers.{counted_from}
-use Rattle.workload_text.proofs.Lines.{took_step, took_kept}
+use Rattle.workload_text.proofs.Lines.{took_step, took_sound}
 use Rattle.workload_text.proofs.MapNumbers.{numbers_of_maps-lines}
 use Rattle.workload_text.proofs.Runnable.{runnable}
 use Rattle.workload_text.proofs.Ends.{text_taken, line_refused, line_unended}
@@ -19,14 +19,10 @@ returns-in-Err-Refused-clause-refused c =
     line_refused c.args.bytes.now c.in-Some.line.now c.in-Some.behind.now c.loop-rest.rest.now _ c.loop-rest.reading (omega arith) (rw c.in-Err-Refused.field-0-is at c.in-Err-Refused.ensures) c.in-Some.ensures.parts c.loop-rest.invariant.read
 
 pub loop-rest-preserved : goal.loop-rest-preserved
-loop-rest-preserved c =
-    let k = took_kept c.loop-rest.reading c.line.new.self _ c.in-Ok.ensures in
-    record {
-      read = took_step c.loop-rest.reading c.line.new.self _ c.in-Some.line.now c.in-Some.behind.now c.loop-rest.rest.now _ refl c.in-Some.ensures.parts c.in-Ok.ensures c.loop-rest.invariant.read;
-      begun = k.1.begun;
-      few = k.1.few;
-      small = k.1.small;
-    }
+loop-rest-preserved c = record {
+  read = took_step c.loop-rest.reading c.line.new.self _ c.in-Some.line.now c.in-Some.behind.now c.loop-rest.rest.now _ refl c.in-Some.ensures.parts c.in-Ok.ensures c.loop-rest.invariant.read;
+  sound = took_sound c.loop-rest.reading c.line.new.self _ c.in-Ok.ensures;
+}
 
 pub returns-clause-spelt : goal.returns-clause-spelt
 returns-clause-spelt c =

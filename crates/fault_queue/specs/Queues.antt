@@ -1,0 +1,43 @@
+-- The raises that wait in a fault queue.
+use Rattle.std.specs.Prelude.{ℕ, ◌≡◌, ◌≤◌, Bool, true, false, not, List, length, take, count_by, filter, find, Option, Some, All, Contains, slice_get}
+use Rattle.std.specs.Option.{option_map}
+use Rattle.page_base.specs.declared.keys.Key.{Key}
+use Rattle.page_base.specs.declared.keys.Raise.{Raise}
+use Rattle.page_base.specs.declared.keys.Why.{Why}
+use Rattle.page_base.specs.Pages.{same}
+
+-- the raises in order, and the most that there may be
+pub record QueueSeen : Type 0 where
+  pub raises : List Raise
+  pub capacity : ℕ
+
+abbrev pub is_of : Key → Raise → Bool
+is_of key raise = same raise.key key
+
+-- why the page was raised, none where it isn't pending
+abbrev pub pending_why : List Raise → Key → Option Why
+pending_why raises key = option_map (λ (r : Raise). r.why) (find (is_of key) raises)
+
+-- the raises of the other pages, in their order
+abbrev pub without : Key → List Raise → List Raise
+without key = filter (λ (r : Raise). not (is_of key r))
+
+-- a key and a why as a raise
+abbrev pub raise_of : Key × Why → Raise
+raise_of r = record { key = r.0; why = r.1 }
+
+-- the raise is the first that a test passes, by what the test answers: true for it, and false for each before it
+pub record IsFirst (answers : Raise → Bool → Type 0) (raises : List Raise) (raise : Raise) : Type 0 where
+  pub place : ℕ
+  pub is : slice_get raises place ≡ Some raise
+  pub passes : answers raise true
+  pub before : All (λ (other : Raise). answers other false) (take place raises)
+
+-- of the raises in the list, the test answers what `passes` computes
+abbrev pub Computes : (Raise → Bool → Type 0) → (Raise → Bool) → List Raise → Type 0
+Computes answers passes raises = (raise : Raise) (answer : Bool) → Contains raises raise → answers raise answer → answer ≡ passes raise
+
+-- a page is raised at most once, and the raises are within the capacity
+pub record IsSound (raises : List Raise) (capacity : ℕ) : Type 0 where
+  pub once : (key : Key) → count_by (is_of key) raises ≤ 1
+  pub within : length raises ≤ capacity

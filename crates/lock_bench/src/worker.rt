@@ -1,0 +1,88 @@
+//! A thread's work: holds of its locks in turn.
+ghost use Rattle.std.specs.Prelude.{◌≡◌};
+ghost use Rattle.turn_lock.specs.Seen.{IsPassOf};
+
+use crate::tally::{Tally, Visit};
+use std::marker::Model;
+use std::sync::Wait;
+use turn_lock::{NoSpare, Pass, TurnLock, Work};
+
+/// A lock and a pass of it.
+#[derive(Drop)]
+pub struct Station<'a> {
+    lock: &'a TurnLock<Tally>,
+    pass: Pass<Tally>,
+}
+
+impl<'a> Model for Station<'a> {
+    ghost use Rattle.turn_lock.specs.Seen.{PassSeen, IsPassOf};
+    ghost use Rattle.lock_bench.specs.declared.tally.Tally.{Tally};
+
+    ghost Value = { PassSeen Tally (Unit {0}) };
+
+    ghost view = { λ s. s.pass };
+
+    ghost invariant = { λ s. IsPassOf s.lock.now s.pass };
+}
+
+impl<'a> Station<'a> {
+    pub fn new(lock: &'a TurnLock<Tally>, pass: Pass<Tally>) -> Station<'a>
+        requires { IsPassOf lock.now pass }
+        ensures { result ≡ pass }
+    {
+        Station { lock, pass }
+    }
+
+    /// A further station at the same lock.
+    pub fn beside(&mut self) -> Result<Station<'a>, NoSpare> {
+        let pass = self.pass.split(self.lock)?;
+        Ok(Station {
+            lock: self.lock,
+            pass,
+        })
+    }
+
+    /// One hold that gives an entry. `false` where the pass has made all its holds.
+    fn visit<R: Wait>(&mut self, rt: &R) -> bool {
+        if self.pass.left() == 0 {
+            return false;
+        }
+        let Ok((mut tally, held)) = self.lock.hold(rt, &mut self.pass) else {
+            unreachable!()
+        };
+        tally.visit();
+        held.give(tally, &Visit);
+        true
+    }
+}
+
+/// So many holds, one station after another.
+#[derive(Drop)]
+pub struct Worker<'r, 'a, R> {
+    pub rt: &'r R,
+    pub stations: Vec<Station<'a>>,
+    pub holds: u64,
+}
+
+impl<'r, 'a, R: Wait> Work for Worker<'r, 'a, R> {
+    ghost use Rattle.std.specs.Prelude.{⊤};
+
+    ghost ready = { λ w. ⊤ };
+
+    ghost leaves = { λ w x. ⊤ };
+
+    fn work(&mut self) {
+        let mut made = 0;
+        for _ in self.rt.forever() {
+            for station in self.stations.iter_mut() {
+                if made >= self.holds || !station.visit(self.rt) {
+                    return;
+                }
+                made += 1;
+            }
+            if self.stations.is_empty() {
+                return;
+            }
+        }
+    }
+}

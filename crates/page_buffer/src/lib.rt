@@ -1,0 +1,12 @@
+//! The page buffer of a stripe: its frames, what each holds, and the order in which the resident pages were filled.
+//!
+//! It stands on `page_base` alone. Contracts see, for each frame, that it is free, reserved for a page that is being read,
+//! or holds a resident page with its bytes, and the resident pages in order of filling. It promises that reserved, resident
+//! and free frames together are the quota, that a fill goes to the end of the order, and that a write changes the bytes of
+//! one page alone. All memory is taken in `PageBuffer::new`.
+#![tactic(auto)]
+
+mod buffer;
+mod frame;
+
+pub use buffer::PageBuffer;

@@ -1,0 +1,5 @@
+pub mod Covers
+pub mod Cuts
+pub mod Pieces
+pub mod Regions
+pub mod Rules

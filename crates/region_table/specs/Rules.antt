@@ -1,0 +1,51 @@
+-- Which region may stand behind which others.
+use Rattle.std.specs.Prelude.{ℕ, ◌+◌, ◌/◌, ◌%◌, Bool, true, false, not, ◌&&◌, ◌||◌, ◌==◌, nat_lt, nat_le, if◌then◌else◌, List, [], ◌∷◌, ◌++◌, nat_eq, Option, Some, None, is_none}
+use Rattle.std.specs.List.{list_any, starts_with}
+use Rattle.std.specs.Str.{bytes_eq}
+use Rattle.region_table.specs.declared.spec.RegionFault.{RegionFault}
+use Rattle.region_table.specs.declared.spec.RegionFault.TheVariants.{SameName, SameStore, BadLength, TooManyPages}
+use Rattle.page_base.specs.Backings.{Backing, in_memory, in_file, in_files}
+use Rattle.region_table.specs.Regions.{RegionSeen, TableSeen, page_count}
+
+abbrev pub path_of : Backing → Option (List ℕ)
+path_of in_memory = None
+path_of (in_file path) = Some path
+path_of (in_files path file) = Some path
+
+-- the path leads into the store's folder: it begins with the folder's path and a `/`
+abbrev pub leads_into : Backing → List ℕ → Bool
+leads_into (in_files folder file) path = starts_with nat_eq path (folder ++ 47 ∷ [])
+leads_into backing path = false
+
+abbrev pub shares_path : Backing → Backing → Option (List ℕ) → Option (List ℕ) → Bool
+shares_path a b (Some p) (Some q) = bytes_eq p q || (leads_into a q || leads_into b p)
+shares_path a b p q = false
+
+-- the two stores have one path, or one lies in the folder of the other
+unfoldable pub shares_store : Backing → Backing → Bool
+shares_store a b = shares_path a b (path_of a) (path_of b)
+
+-- whole pages, at least one
+abbrev pub is_whole : (page_size size : ℕ) → Bool
+is_whole page_size size = nat_lt 0 size && (size % page_size == 0)
+
+-- a store in files has whole files of whole pages, at most 4096 of them
+abbrev pub has_whole_files : (page_size size : ℕ) → Backing → Bool
+has_whole_files page_size size (in_files path file) = is_whole page_size file && (size % file == 0 && nat_le (size / file) 4096)
+has_whole_files page_size size backing = true
+
+unfoldable pub has_good_length : ℕ → RegionSeen → Bool
+has_good_length page_size r = is_whole page_size r.size && has_whole_files page_size r.size r.backing
+
+-- the first rule that a region breaks behind those that are there, if it breaks one
+abbrev pub region_fault : TableSeen → RegionSeen → Option RegionFault
+region_fault t r =
+    if list_any (λ (s : RegionSeen). bytes_eq s.name r.name) t.regions then Some SameName else
+    (if list_any (λ (s : RegionSeen). shares_store s.backing r.backing) t.regions then Some SameStore else
+    (if not (has_good_length t.page_size r) then Some BadLength else
+    (if nat_lt 1048576 (page_count t + r.size / t.page_size) then Some (TooManyPages (page_count t + r.size / t.page_size)) else None)))
+
+-- none of these regions breaks a rule behind those before it
+abbrev pub keeps_rules : (page_size : ℕ) (before regions : List RegionSeen) → Bool
+keeps_rules page_size before [] = true
+keeps_rules page_size before (r ∷ rs) = is_none (region_fault (record { page_size = page_size; regions = before }) r) && keeps_rules page_size (before ++ r ∷ []) rs

@@ -1,0 +1,8 @@
+//! Laws of pieces. Each function does nothing: its contract is the law, and a caller calls it where its proof needs the
+//! law.
+ghost use Rattle.region_table.specs.Covers.{PiecesCover};
+
+/// The pieces of a range join to the range, one a page, in rising order, and stay inside the pages that the range does.
+pub fn pieces_cover()
+    ensures { PiecesCover }
+{}

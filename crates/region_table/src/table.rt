@@ -1,0 +1,147 @@
+//! The table of regions.
+//!
+//! The room of 64 regions is taken once, so that adding one takes memory for its name and path alone. `pages` is the
+//! pages of all regions together, and no region breaks a rule behind those before it.
+ghost use Rattle.std.specs.Prelude.{◌≡◌, ◌<◌, ◌≤◌, ◌+◌, ◌/◌, true, [], ◌∷◌, ◌++◌, length, slice_get, slice_index, Some, None, IfOk, OnOk, OnErr, IfErr, MatchResult, unwrap_or};
+ghost use Rattle.page_base.specs.Layouts.{is_page_size};
+ghost use Rattle.region_table.specs.Cuts.{rest_of};
+ghost use Rattle.region_table.specs.Pieces.{pieces_of};
+ghost use Rattle.region_table.specs.Regions.{seen_of, shapes_of, lengths_of, page_count, number_of};
+ghost use Rattle.region_table.specs.Rules.{region_fault, keeps_rules};
+
+use crate::pieces::Pieces;
+use crate::region::{Region, has_good_length, has_name, has_store, place_of_name};
+use crate::spec::{RegionFault, RegionSpec};
+use page_base::{List, OutOfMemory, RegionShape};
+use std::alloc::Global;
+use std::marker::Model;
+
+/// The most regions of a table.
+const MOST_REGIONS: usize = 64;
+
+/// The most pages that all regions have together.
+const MOST_PAGES: u64 = 1_048_576;
+
+/// Regions by their numbers, which count from 0 in the order of adding.
+#[derive(Debug, Drop)]
+pub struct RegionTable {
+    page_size: u32,
+    pages: u64,
+    regions: List<Region>,
+}
+
+impl Model for RegionTable {
+    ghost use Rattle.std.specs.Prelude.{◌≡◌, ◌≤◌, ◌+◌, true, [], length};
+    ghost use Rattle.region_table.specs.Regions.{TableSeen, page_count};
+    ghost use Rattle.region_table.specs.Rules.{keeps_rules};
+
+    ghost Value = { TableSeen };
+
+    ghost view = { λ t. record { page_size = t.page_size; regions = t.regions.items } };
+
+    ghost invariant = { λ t. (64 ≤ t.page_size) × (t.pages ≤ 1048576) × (t.pages ≡ page_count (record { page_size = t.page_size; regions = t.regions.items })) × (length t.regions.items ≤ 64) × (64 ≤ length t.regions.items + t.regions.spare) × (keeps_rules t.page_size [] t.regions.items ≡ true) };
+}
+
+impl RegionTable {
+    /// A table without regions, for pages of `page_size` bytes.
+    pub fn new(alloc: Global, page_size: u32) -> Result<RegionTable, OutOfMemory>
+        requires { is_page_size page_size ≡ true }
+        ensures page_size { IfOk result (λ t. t.page_size ≡ page_size) }
+        ensures regions { IfOk result (λ t. t.regions ≡ []) }
+    {
+        let mut regions = List::new(alloc);
+        regions.reserve(MOST_REGIONS)?;
+        Ok(RegionTable {
+            page_size,
+            pages: 0,
+            regions,
+        })
+    }
+
+    /// Adds a region, and answers its number. The rules are tested in the order of `RegionFault`'s variants.
+    pub fn add(&mut self, spec: &RegionSpec) -> Result<u16, RegionFault>
+        requires { length self.old.regions < 64 }
+        ensures number { IfOk result (λ n. n ≡ length self.old.regions) }
+        ensures added { OnOk result (self.new ≡ record self.old { regions = self.old.regions ++ seen_of spec.now ∷ [] }) }
+        ensures accepted { OnOk result (region_fault self.old (seen_of spec.now) ≡ None) }
+        // want of memory comes last: where no rule is broken
+        ensures refused { IfErr result (λ f. f ≡ unwrap_or (region_fault self.old (seen_of spec.now)) RegionFault.OutOfMemory) }
+        ensures unchanged { OnErr result (self.new ≡ self.old) }
+    {
+        let pages = self.pages_with(spec)?;
+        let region = Region::from_spec(self.regions.allocator(), spec)?;
+        let number = self.regions.len() as u16;
+        self.regions.put(region);
+        self.pages = pages;
+        Ok(number)
+    }
+
+    /// The pages of all regions and one more, or the first rule that the one more breaks.
+    fn pages_with(&self, spec: &RegionSpec) -> Result<u64, RegionFault>
+        ensures { MatchResult result (λ n. (region_fault self.now (seen_of spec.now) ≡ None) × (n ≤ 1048576) × (n ≡ page_count self.now + spec.now.length / self.now.page_size)) (λ f. region_fault self.now (seen_of spec.now) ≡ Some f) }
+    {
+        let regions = self.regions.as_slice();
+        if has_name(regions, spec.name.as_slice()) {
+            return Err(RegionFault::SameName);
+        }
+        if has_store(regions, &spec.kind) {
+            return Err(RegionFault::SameStore);
+        }
+        if !has_good_length(self.page_size, spec) {
+            return Err(RegionFault::BadLength);
+        }
+        let pages = self.pages + spec.length / u64::from(self.page_size);
+        if pages > MOST_PAGES {
+            return Err(RegionFault::TooManyPages { pages });
+        }
+        Ok(pages)
+    }
+
+    /// The number of the region of this name.
+    pub fn find(&self, name: &[u8]) -> Option<u16>
+        ensures { result ≡ number_of self.now name.now }
+    {
+        match place_of_name(self.regions.as_slice(), name) {
+            Some(number) => Some(number as u16),
+            None => None,
+        }
+    }
+
+    /// The number of regions. No region of a table breaks a rule behind those before it.
+    pub fn count(&self) -> u16
+        ensures count { result ≡ length self.now.regions }
+        ensures few { result ≤ 64 }
+        ensures rules { keeps_rules self.now.page_size [] self.now.regions ≡ true }
+    {
+        self.regions.len() as u16
+    }
+
+    /// The length of a region in bytes.
+    pub fn length(&self, region: u16) -> u64
+        requires { region < length self.now.regions }
+        ensures { result ≡ slice_index (lengths_of self.now) region }
+    {
+        self.regions.get(region as usize).length()
+    }
+
+    /// The shape of a region.
+    pub fn shape(&self, region: u16) -> RegionShape
+        requires { region < length self.now.regions }
+        ensures shape { slice_get (shapes_of self.now) region ≡ Some result }
+        ensures group { 1 ≤ result.group }
+        ensures some { 1 ≤ result.pages }
+        ensures few { result.pages ≤ 1048576 }
+        ensures few_of_all { page_count self.now ≤ 1048576 }
+    {
+        self.regions.get(region as usize).shape(self.page_size)
+    }
+
+    /// The pieces of the range of `len` bytes from byte `off` of a region on.
+    pub fn pieces(&self, region: u16, off: u64, len: u64) -> Pieces
+        requires region { region < length self.now.regions }
+        requires inside { off + len ≤ slice_index (lengths_of self.now) region }
+        ensures { rest_of result ≡ pieces_of self.now.page_size region off len }
+    {
+        Pieces::new(region, self.page_size, off, len)
+    }
+}

@@ -1,0 +1,12 @@
+pub mod Streaming
+pub mod Contents
+pub mod Pieces
+pub mod Rows
+pub mod RowLanes
+pub mod Texts
+pub mod Regions
+pub mod Accesses
+pub mod Runs
+pub mod Commands
+pub mod Openings
+pub mod Zeros

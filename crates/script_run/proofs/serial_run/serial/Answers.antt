@@ -1,0 +1,20 @@
+use Rattle.std.proofs.Common.{List, ℕ, sym, subst, arith}
+use Rattle.workload_text.specs.View.{lines_of}
+use Rattle.workload_text.specs.Accepted.{regions_of}
+use Rattle.script_run.specs.Running.{AreRegions}
+use Rattle.script_run.proofs.Openings.{fit_rows, regions_fit}
+use Rattle.script_run.proofs.serial_run.serial.Goals as goal
+
+pub new-requires-clause-fit : goal.new-requires-clause-fit
+new-requires-clause-fit c = fit_rows c.args.settings.now.layout (regions_of (lines_of c.args.workload.now)) c.args.lanes.stripes.items c.requires.lanes
+
+pub run_scripts-requires-clause-may : goal.run_scripts-requires-clause-may
+run_scripts-requires-clause-may c =
+    let lines = lines_of c.args.workload.now in
+    record {
+      regions = regions_of lines;
+      fit = c.requires.runnable.fit;
+      sized = subst (λ (b : List (List ℕ)). AreRegions (regions_of lines) b) (sym c.in-Ok-new.ensures.regions) (regions_fit c.args.settings.now.layout lines c.args.lanes.stripes.items c.requires.lanes c.requires.runnable.fit);
+      room = omega (arith, c.in-Some.ensures, c.in-Ok.ensures.room);
+      few = omega (arith, c.in-Ok.ensures.loaded, c.requires.runnable.loaded)
+    }

@@ -1,0 +1,27 @@
+-- Which lanes go with a layout and with the regions of a workload.
+use Rattle.std.specs.Prelude.{◌≡◌, ℕ, ◌/◌, ◌%◌, ◌==◌, ◌<◌, Bool, true, List, [], map, length, slice_index_or}
+use Rattle.std.specs.List.{list_all, enumerate_from}
+use Rattle.page_base.specs.Lanes.{Origin, LaneSeen}
+use Rattle.page_base.specs.declared.layout.Layout.{Layout}
+use Rattle.store_trait.specs.Memory.{memory_origin}
+use Rattle.script_run.specs.Contents.{origins_of}
+use Rattle.workload_text.specs.Grammar.{Region}
+
+-- every region is a number of whole pages
+abbrev pub has_whole_pages : (page_size : ℕ) → List Region → Bool
+has_whole_pages page_size regions = list_all (λ (g : Region). g.size % page_size == 0) regions
+
+-- the pages of each region
+abbrev pub pages_of : (page_size : ℕ) → List Region → List ℕ
+pages_of page_size regions = map (λ (g : Region). g.size / page_size) regions
+
+-- the lanes of one stripe, one for each region in order
+abbrev pub row_origins : (page_size stripes stripe : ℕ) → (pages : List ℕ) → List Origin
+row_origins page_size stripes stripe pages =
+    map (λ r. memory_origin r.0 r.1 page_size stripes stripe) (enumerate_from 0 pages)
+
+-- one row of lanes for each stripe, each lane with its stripe's pages of its region
+pub record FitLanes (layout : Layout) (regions : List Region) (rows : List (List LaneSeen)) : Type 0 where
+  pub stripes : length rows ≡ layout.stripes
+  pub whole : has_whole_pages layout.page_size regions ≡ true
+  pub lanes : (s : ℕ) → s < length rows → slice_index_or (origins_of rows) s [] ≡ row_origins layout.page_size (length rows) s (pages_of layout.page_size regions)

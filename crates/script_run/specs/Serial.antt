@@ -1,0 +1,53 @@
+-- What a workload means when its lines run one after another: the text that they answer, the bytes that they leave, and
+-- the bytes that they load. The state is the bytes of every region, in order of region.
+use Rattle.std.specs.Prelude.{ℕ, List, [], ◌∷◌, ◌++◌, slice_index_or, slice_set, take, drop, map, replicate, codes}
+use Rattle.hex.specs.Hex.{encode_lower}
+use Rattle.page_base.specs.ListSeen.{spliced}
+use Rattle.workload_text.specs.Grammar.{Region}
+use Rattle.workload_text.specs.Accepted.{regions_of}
+use Rattle.workload_text.specs.Line.{Line, map_line, script_line, load_line, store_line, prefetch_line, flush_line, unmap_line}
+
+abbrev pub bytes_at : List (List ℕ) → (region : ℕ) → List ℕ
+bytes_at regions region = slice_index_or regions region []
+
+-- regions in memory before anything runs
+abbrev pub zeros_of : List Line → List (List ℕ)
+zeros_of lines = map (λ (g : Region). replicate g.size 0) (regions_of lines)
+
+-- the bytes that a line loads
+abbrev pub loaded : List (List ℕ) → Line → List ℕ
+loaded regions (load_line r off len) = take len (drop off (bytes_at regions r))
+loaded regions l = []
+
+-- the reply to a load of these bytes
+abbrev pub load_reply : List ℕ → List ℕ
+load_reply [] = codes "load\n"
+load_reply (b ∷ bytes) = codes "load " ++ (encode_lower (b ∷ bytes) ++ 10 ∷ [])
+
+-- what a line writes to the text; no accepted text has an `unmap` yet
+abbrev pub reply : List (List ℕ) → Line → List ℕ
+reply regions (map_line name kept size writable) = []
+reply regions (script_line name) = codes "script " ++ (name ++ 10 ∷ [])
+reply regions (load_line r off len) = load_reply (loaded regions (load_line r off len))
+reply regions (store_line r off bytes) = codes "ok\n"
+reply regions (prefetch_line r off len) = codes "ok\n"
+reply regions flush_line = codes "ok\n"
+reply regions (unmap_line r) = codes "ok\n"
+
+-- the regions behind a line
+abbrev pub stored : List (List ℕ) → Line → List (List ℕ)
+stored regions (store_line r off bytes) = slice_set regions r (spliced (bytes_at regions r) off bytes)
+stored regions l = regions
+
+abbrev pub serial_text : List (List ℕ) → List Line → List ℕ
+serial_text regions [] = []
+serial_text regions (l ∷ ls) = reply regions l ++ serial_text (stored regions l) ls
+
+abbrev pub serial_end : List (List ℕ) → List Line → List (List ℕ)
+serial_end regions [] = regions
+serial_end regions (l ∷ ls) = serial_end (stored regions l) ls
+
+-- all loaded bytes, in order
+abbrev pub serial_loads : List (List ℕ) → List Line → List ℕ
+serial_loads regions [] = []
+serial_loads regions (l ∷ ls) = loaded regions l ++ serial_loads (stored regions l) ls

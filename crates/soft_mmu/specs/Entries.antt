@@ -1,0 +1,67 @@
+-- The entries of a page table: what each says of an access, and how one changes.
+use Rattle.std.specs.Prelude.{ℕ, ◌<◌, Bool, true, false, List, [], length, map, replicate, slice_index_or, slice_set}
+use Rattle.page_base.specs.declared.keys.Key.{Key}
+use Rattle.page_base.specs.declared.keys.RegionShape.{RegionShape}
+use Rattle.soft_mmu.specs.declared.entry.PageEntry.{PageEntry}
+use Rattle.soft_mmu.specs.declared.entry.PageEntry.TheVariants.{Absent, Present}
+use Rattle.soft_mmu.specs.declared.entry.Bits.{Bits}
+use Rattle.soft_mmu.specs.declared.entry.Wants.{Wants}
+use Rattle.soft_mmu.specs.declared.entry.Wants.TheVariants as wants
+use Rattle.soft_mmu.specs.declared.entry.Found.{Found}
+use Rattle.soft_mmu.specs.declared.entry.Found.TheVariants.{Hit, Missing, Protected}
+
+-- ---- one entry
+
+-- what an access finds: a store to a protected page has to fault, every other access of a present page hits
+abbrev pub translation : PageEntry → Wants → Found
+translation Absent wanted = Missing
+translation (Present true dirty frame) wants.Write = Protected
+translation (Present protected dirty frame) wanted = Hit frame
+
+abbrev pub bits_of : PageEntry → Bits
+bits_of Absent = record { present = false; protected = false; dirty = false }
+bits_of (Present protected dirty frame) = record { present = true; protected = protected; dirty = dirty }
+
+abbrev pub is_present : PageEntry → Bool
+is_present Absent = false
+is_present (Present protected dirty frame) = true
+
+abbrev pub is_protected : PageEntry → Bool
+is_protected Absent = false
+is_protected (Present protected dirty frame) = protected
+
+-- the entry, protected
+abbrev pub closed : PageEntry → PageEntry
+closed Absent = Absent
+closed (Present protected dirty frame) = Present true dirty frame
+
+-- the entry, open to stores and dirty from then on
+abbrev pub opened : PageEntry → PageEntry
+opened Absent = Absent
+opened (Present protected dirty frame) = Present false true frame
+
+-- the entry, clean, and as protected as before
+abbrev pub cleaned : PageEntry → PageEntry
+cleaned Absent = Absent
+cleaned (Present protected dirty frame) = Present protected false frame
+
+-- ---- the table: for each region the entries of its pages
+
+abbrev pub pages_of : List (List PageEntry) → ℕ → List PageEntry
+pages_of table region = slice_index_or table region []
+
+abbrev pub entry_of : List (List PageEntry) → Key → PageEntry
+entry_of table key = slice_index_or (pages_of table key.region) key.page Absent
+
+-- the table has this page
+pub record HasPage (table : List (List PageEntry)) (key : Key) : Type 0 where
+  pub region : key.region < length table
+  pub page : key.page < length (pages_of table key.region)
+
+-- the table with one entry set, all else as before
+abbrev pub with_entry : List (List PageEntry) → Key → PageEntry → List (List PageEntry)
+with_entry table key entry = slice_set table key.region (slice_set (pages_of table key.region) key.page entry)
+
+-- no page of these regions is present
+abbrev pub no_pages : List RegionShape → List (List PageEntry)
+no_pages shapes = map (λ (s : RegionShape). replicate s.pages Absent) shapes

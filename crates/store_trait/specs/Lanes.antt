@@ -1,0 +1,25 @@
+-- Where a lane's pages lie, and what a read and a write do to what the lane tells.
+use Rattle.std.specs.Prelude.{◌≡◌, ◌≢◌, ℕ, ◌*◌, ◌/◌, ◌<◌, true, List, length, Option, Some, None, is_some, IfSome}
+use Rattle.page_base.specs.Lanes.{Origin, has_page, told_at}
+
+-- n bytes are one page, and byte `off` of the region is where a page of this lane begins
+pub record IsPlace (o : Origin) (n off : ℕ) : Type 0 where
+  pub some : 0 < o.page_size
+  pub one_page : n ≡ o.page_size
+  pub whole : off ≡ off / o.page_size * o.page_size
+  pub of_lane : has_page o (off / o.page_size) ≡ true
+
+-- these are the page's bytes, where the lane tells them
+abbrev pub IsPageOf : List (Option (List ℕ)) → ℕ → List ℕ → Type 0
+IsPageOf told page bytes = IfSome (told_at told page) (λ kept. bytes ≡ kept)
+
+-- no page but this one changed, and it is told exactly where it was told before
+pub record ChangesOnly (page : ℕ) (old new : List (Option (List ℕ))) : Type 0 where
+  pub as_many : length new ≡ length old
+  pub others : (q : ℕ) → q ≢ page → told_at new q ≡ told_at old q
+  pub stays_told : is_some (told_at new page) ≡ is_some (told_at old page)
+
+-- what is told of a page after these bytes were written to it: the bytes, where the page is told at all
+abbrev pub retold : Option (List ℕ) → List ℕ → Option (List ℕ)
+retold None bytes = None
+retold (Some kept) bytes = Some bytes
