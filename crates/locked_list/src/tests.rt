@@ -49,17 +49,14 @@ fn counts_down(items: &VecDeque<(u32, u64)>, owner: u32) -> bool {
 
 #[test]
 fn two_threads_add_a_thousand_each(rt: HostRuntime) -> Result<(), Fail> {
-    match add_beside(&rt, rt.alloc(), empty(rt.alloc()), COUNT) {
-        Ok(Added { lines, closed, all }) => {
-            drop(closed);
-            assert!(rt; all);
-            assert_eq!(rt; lines.items.len(), 2000);
-            assert!(rt; counts_down(&lines.items, 0));
-            assert!(rt; counts_down(&lines.items, 1));
-            assert_eq!(rt; lines.shelf.label(), lines.label);
-        }
-        Err(_) => assert!(rt; false),
-    }
+    let Ok(added) = add_beside(&rt, rt.alloc(), empty(rt.alloc()), COUNT) else {
+        return Err(Fail::from("out of memory"));
+    };
+    assert!(rt; added.all);
+    assert_eq!(rt; added.lines.items.len(), 2000);
+    assert!(rt; counts_down(&added.lines.items, 0));
+    assert!(rt; counts_down(&added.lines.items, 1));
+    assert_eq!(rt; added.lines.shelf.label(), added.lines.label);
     Ok(())
 }
 

@@ -118,15 +118,15 @@ fn lengths_and_files_are_whole(rt: HostRuntime) -> Result<(), RegionFault> {
 fn a_region_is_found_by_name(rt: HostRuntime) -> Result<(), RegionFault> {
     let alloc = rt.alloc();
     let mut table = table_of_small_pages(alloc)?;
-    let file = in_file(alloc, "heap", "disk", 192)?;
     let files = in_files(alloc, "far", Some(128), 256)?;
-    assert_eq!(rt; table.add(&file)?, 0);
-    assert_eq!(rt; table.add(&files)?, 1);
-    assert_eq!(rt; table.count(), 2);
-    assert_eq!(rt; table.find(b"files"), Some(1));
+    let number = table.add(&files)?;
+    assert_eq!(rt; number, 0);
+    assert_eq!(rt; table.count(), 1);
+    assert_eq!(rt; table.find(b"files"), Some(0));
     assert_eq!(rt; table.find(b"file"), None);
-    assert_eq!(rt; table.length(1), 256);
-    assert_eq!(rt; table.shape(1).group, 2);
+    let shape = table.shape(0);
+    assert_eq!(rt; shape.pages, 4);
+    assert_eq!(rt; shape.group, 2);
     Ok(())
 }
 

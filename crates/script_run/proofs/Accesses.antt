@@ -1,8 +1,7 @@
 -- Ranges that are loaded and stored piece by piece.
-use Rattle.std.proofs.Common.{◌≡◌, ℕ, ◌+◌, ◌*◌, ◌-◌, ◌/◌, ◌%◌, ◌<◌, ◌≤◌, List, [], ◌++◌, length, take, drop, set, get_or, refl, sym, ap, ◌∙◌, arith, rules, length-take}
+use Rattle.std.proofs.Common.{◌≡◌, ℕ, ◌+◌, ◌<◌, ◌≤◌, List, [], ◌++◌, length, take, drop, set, sym, ap, ◌∙◌, arith, rules, length-take}
 use Rattle.std.proofs.lemmas.List.{places, same_lists, take-append-drop, drop-drop, set-set, set-get_or, get_or-set_same}
 use Rattle.std.proofs.lemmas.Slice.{take-put_mid}
-use Rattle.std.proofs.lemmas.Nat.{div-add-mod'}
 use borrow.Rule.Slice.PartMut.{put_mid}
 use Rattle.page_base.specs.ListSeen.{spliced}
 use Rattle.script_run.specs.Serial.{bytes_at}

@@ -1,9 +1,8 @@
 -- One line that runs.
-use Rattle.std.proofs.Common.{◌≡◌, ℕ, ◌+◌, ◌*◌, ◌^◌, ◌<◌, ◌≤◌, List, [], ◌∷◌, ◌++◌, length, take, drop, map, set, sum, get_or, codes, refl, sym, ap, ◌∙◌, arith, append-nil, length-take, length-drop}
-use Rattle.std.proofs.lemmas.List.{map-set, set-get_or, length-map, get_or-map}
+use Rattle.std.proofs.Common.{◌≡◌, ℕ, ◌+◌, ◌*◌, ◌^◌, ◌<◌, ◌≤◌, List, [], ◌∷◌, ◌++◌, length, take, drop, map, set, sum, codes, refl, sym, ap, ◌∙◌, arith, append-nil, length-take, length-drop}
+use Rattle.std.proofs.lemmas.List.{map-set, set-get_or, get_or-map}
 use Rattle.page_base.specs.ListSeen.{spliced}
-use Rattle.workload_text.specs.Line.{Line, script_line, load_line, store_line}
-use Rattle.workload_text.specs.Grammar.{Region, size_at}
+use Rattle.workload_text.specs.Line.{script_line, load_line, store_line}
 use Rattle.script_run.specs.Serial.{bytes_at, load_reply}
 use Rattle.script_run.specs.Engine.{EngineSeen}
 use Rattle.script_run.specs.Running.{MayRun, Ran}
@@ -43,33 +42,33 @@ ran_load r off len r0 r1 e0 e1 bytes range is same text spare count total =
       regions = ap (λ (e : EngineSeen). e.regions) same;
       lengths = ap (λ (e : EngineSeen). map length e.regions) same;
       page_size = ap (λ (e : EngineSeen). e.page_size) same;
-      origins = ap (λ (e : EngineSeen). e.origins) same
+      origins = ap (λ (e : EngineSeen). e.origins) same;
     }
 
 pub ran_store : (r off : ℕ) (bytes : List ℕ) (r0 r1 : Replies) (e0 e1 : EngineSeen) → IsRange e0.regions r off (length bytes) → e1.regions ≡ set e0.regions r (spliced (bytes_at e0.regions r) off bytes) → e1.page_size ≡ e0.page_size → e1.origins ≡ e0.origins → r1.text.items ≡ r0.text.items ++ codes "ok\n" → r0.text.spare ≤ r1.text.spare + 3 → r1.loaded ≡ r0.loaded → r1.sum ≡ r0.sum → Ran (store_line r off bytes ∷ []) r0 r1 e0 e1
 ran_store r off bytes r0 r1 e0 e1 range is page_size origins text spare count total = record {
-    text = text ∙ ap (λ (t : List ℕ). r0.text.items ++ t) (sym (append-nil (codes "ok\n")));
-    spare = omega arith;
-    loaded = omega arith;
-    added = omega arith;
-    regions = is;
-    lengths =
+  text = text ∙ ap (λ (t : List ℕ). r0.text.items ++ t) (sym (append-nil (codes "ok\n")));
+  spare = omega arith;
+  loaded = omega arith;
+  added = omega arith;
+  regions = is;
+  lengths =
       ap (λ (rs : List (List ℕ)). map length rs) is
       ∙ map-set length e0.regions r (spliced (bytes_at e0.regions r) off bytes)
       ∙ ap (λ (n : ℕ). set (map length e0.regions) r n) (length-spliced (bytes_at e0.regions r) bytes off range.inside ∙ sym (get_or-map length e0.regions r [] 0 range.region))
       ∙ set-get_or (map length e0.regions) r 0;
-    page_size = page_size;
-    origins = origins
-  }
+  page_size = page_size;
+  origins = origins;
+}
 
 pub ran_script : (name : List ℕ) (r0 r1 : Replies) (e : EngineSeen) → r1.text.items ≡ r0.text.items ++ (codes "script " ++ (name ++ 10 ∷ [])) → r0.text.spare ≤ r1.text.spare + (length name + 8) → r1.loaded ≡ r0.loaded → r1.sum ≡ r0.sum → Ran (script_line name ∷ []) r0 r1 e e
 ran_script name r0 r1 e text spare count total = record {
-    text = text ∙ ap (λ (t : List ℕ). r0.text.items ++ t) (sym (append-nil (codes "script " ++ (name ++ 10 ∷ []))));
-    spare = omega arith;
-    loaded = omega arith;
-    added = omega arith;
-    regions = refl;
-    lengths = refl;
-    page_size = refl;
-    origins = refl
-  }
+  text = text ∙ ap (λ (t : List ℕ). r0.text.items ++ t) (sym (append-nil (codes "script " ++ (name ++ 10 ∷ []))));
+  spare = omega arith;
+  loaded = omega arith;
+  added = omega arith;
+  regions = refl;
+  lengths = refl;
+  page_size = refl;
+  origins = refl;
+}

@@ -1,8 +1,8 @@
 -- Regions as their pages, joined: where a page lies in them, and what a changed page changes.
-use Rattle.std.proofs.Common.{◌≡◌, ◌≢◌, inl, inr, ℕ, zero, suc, ◌+◌, ◌*◌, ◌-◌, ◌<◌, ◌≤◌, List, [], ◌∷◌, ◌++◌, length, take, drop, set, map, get_or, refl, sym, ap, subst, ◌∙◌, arith, rules, length-append}
+use Rattle.std.proofs.Common.{◌≡◌, ◌≢◌, inl, inr, ℕ, zero, suc, ◌+◌, ◌*◌, ◌<◌, ◌≤◌, List, [], ◌++◌, length, set, get_or, refl, sym, ap, ◌∙◌, arith, rules, length-append}
 use Rattle.std.specs.List.{enumerate_from}
 use Rattle.std.proofs.lemmas.Bool.{cases_lt, cases_eq}
-use Rattle.std.proofs.lemmas.List.{places, same_lists, get_or-map, get_or_default, get_or-set_same, get_or-set_other, length-set, length-map}
+use Rattle.std.proofs.lemmas.List.{places, same_lists, get_or-map, get_or-set_same, get_or-set_other, length-set, length-map}
 use Rattle.std.proofs.lemmas.List.FromFn.{length-enumerate_from, get_or-enumerate_from}
 use Rattle.page_base.specs.ListSeen.{spliced}
 use Rattle.store_trait.specs.Memory.{page_of}
@@ -29,8 +29,8 @@ page_of-joined size (suc n) page p whole below =
     elim (cases_lt p n) [
       | inl under ↦ page_of-append size p (joined n page) (page n) (omega (arith, rows_apart p n size under)) ∙ page_of-joined size n page p (fewer size n page whole) under
       | inr top ↦
-        let last : p ≡ n = omega arith in
-        rw last (page_of-appended size n (joined n page) (page n) len (whole.each n (omega arith)))
+          let last : p ≡ n = omega arith in
+          rw last (page_of-appended size n (joined n page) (page n) len (whole.each n (omega arith)))
     ]
 
 pub joined-same : (n : ℕ) (page page' : ℕ → List ℕ) → ((p : ℕ) → p < n → page' p ≡ page p) → joined n page' ≡ joined n page
@@ -50,14 +50,14 @@ joined-changed size (suc n) page page' p whole below len others =
     let long : length (joined n page) ≡ n * size = length-joined size n page (fewer size n page whole) in
     elim (cases_lt p n) [
       | inl under ↦
-        ap (λ (xs : List ℕ). xs ++ page' n) (joined-changed size n page page' p (fewer size n page whole) under len (λ q lt ne. others q (omega arith) ne))
-        ∙ ap (λ (xs : List ℕ). spliced (joined n page) (p * size) (page' p) ++ xs) (others n (omega arith) (λ e. absurd (omega arith)))
-        ∙ spliced-append (joined n page) (page' p) (page n) (p * size) (omega (arith, rows_apart p n size under))
+          ap (λ (xs : List ℕ). xs ++ page' n) (joined-changed size n page page' p (fewer size n page whole) under len (λ q lt ne. others q (omega arith) ne))
+          ∙ ap (λ (xs : List ℕ). spliced (joined n page) (p * size) (page' p) ++ xs) (others n (omega arith) (λ e. absurd (omega arith)))
+          ∙ spliced-append (joined n page) (page' p) (page n) (p * size) (omega (arith, rows_apart p n size under))
       | inr top ↦
-        let last : n ≡ p = omega arith in
-        ap (λ (xs : List ℕ). xs ++ page' n) (joined-same n page page' (λ q lt. others q (omega arith) (λ e. absurd (omega arith))))
-        ∙ ap (λ (q : ℕ). joined n page ++ page' q) last
-        ∙ spliced_last (joined n page) (page' p) (page n) (p * size) (ap (λ (q : ℕ). q * size) (sym last) ∙ sym long) (len ∙ sym (whole.each n (omega arith)))
+          let last : n ≡ p = omega arith in
+          ap (λ (xs : List ℕ). xs ++ page' n) (joined-same n page page' (λ q lt. others q (omega arith) (λ e. absurd (omega arith))))
+          ∙ ap (λ (q : ℕ). joined n page ++ page' q) last
+          ∙ spliced_last (joined n page) (page' p) (page n) (p * size) (ap (λ (q : ℕ). q * size) (sym last) ∙ sym long) (len ∙ sym (whole.each n (omega arith)))
     ]
 
 module _ (pages : List ℕ) (page : ℕ → ℕ → List ℕ) where
@@ -82,17 +82,17 @@ module _ (size : ℕ) (pages : List ℕ) (page page' : ℕ → ℕ → List ℕ)
       let old : List (List ℕ) = contents_by pages page in
       let new : List ℕ = spliced (bytes_at old r) (p * size) (page' r p) in
       same_lists _ _ (length-contents_by pages page' ∙ sym (length-set old r new ∙ length-contents_by pages page)) (λ k d h.
-        let inside : k < length pages = omega (arith, length-contents_by pages page') in
-        elim (cases_eq k r) [
-          | inl same ↦
+      let inside : k < length pages = omega (arith, length-contents_by pages page') in
+      elim (cases_eq k r) [
+        | inl same ↦
             get_or-contents_by pages page' k d inside
             ∙ ap (λ (q : ℕ). joined (get_or pages q 0) (page' q)) same
             ∙ joined-changed size (get_or pages r 0) (page r) (page' r) p whole below len near
             ∙ ap (λ (xs : List ℕ). spliced xs (p * size) (page' r p)) (sym (get_or-contents_by pages page r [] region))
             ∙ sym (ap (λ (q : ℕ). get_or (set old r new) q d) same ∙ get_or-set_same old r new d (omega (arith, length-contents_by pages page)))
-          | inr other ↦
+        | inr other ↦
             get_or-contents_by pages page' k d inside
             ∙ joined-same (get_or pages k 0) (page k) (page' k) (λ n lt. far k n inside lt other)
             ∙ sym (get_or-contents_by pages page k d inside)
             ∙ sym (get_or-set_other old r k new d other)
-        ])
+      ])

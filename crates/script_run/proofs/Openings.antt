@@ -1,12 +1,10 @@
 -- Lanes that fit a workload, as the engine needs them.
-use Rattle.std.proofs.Common.{◌≡◌, inl, inr, ℕ, zero, suc, ◌+◌, ◌*◌, ◌/◌, ◌%◌, ◌<◌, ◌≤◌, true, ◌&&◌, eqb, List, [], ◌∷◌, length, map, get_or, Option, Some, refl, sym, ap, subst, ◌∙◌, arith}
+use Rattle.std.proofs.Common.{◌≡◌, ℕ, zero, suc, ◌+◌, ◌*◌, ◌/◌, ◌%◌, ◌<◌, ◌≤◌, true, List, [], ◌∷◌, length, map, get_or, Option, refl, sym, ap, ◌∙◌, arith}
 use Rattle.std.specs.Option.{unwrap_or}
-use Rattle.std.specs.List.{enumerate_from, list_all}
-use Rattle.std.proofs.lemmas.Bool.{and_parts, eqb-true, and_from, lt-ltb, eq-eqb}
+use Rattle.std.specs.List.{enumerate_from}
+use Rattle.std.proofs.lemmas.Bool.{and_parts, eqb-true}
 use Rattle.std.proofs.lemmas.List.{get_or-map, length-map}
-use Rattle.std.proofs.lemmas.List.FromFn.{length-enumerate_from}
 use Rattle.std.proofs.lemmas.Nat.{div-add-mod', mod_below}
-use Rattle.std.proofs.Math.Nat.{div-one}
 use Rattle.page_base.specs.ListSeen.{ListSeen}
 use Rattle.page_base.specs.Lanes.{Origin, LaneSeen, has_page, told_at}
 use Rattle.page_base.specs.declared.layout.Layout.{Layout}
@@ -19,8 +17,7 @@ use Rattle.workload_text.specs.Line.{Line, map_line, script_line, load_line, sto
 use Rattle.page_base.specs.Backings.{in_memory, in_file, in_files}
 use Rattle.workload_text.specs.Grammar.{Region, size_at}
 use Rattle.workload_text.specs.Accepted.{AllFit, regions_of}
-use Rattle.script_run.specs.Serial.{bytes_at}
-use Rattle.script_run.specs.Contents.{rows_in, row_told, page_told, pages_in, origins_of, contents_of, no_lane}
+use Rattle.script_run.specs.Contents.{rows_in, page_told, pages_in, origins_of, contents_of, no_lane}
 use Rattle.script_run.specs.Fits.{FitLanes, row_origins, pages_of, has_whole_pages}
 use Rattle.script_run.specs.Engine.{FitRows}
 use Rattle.script_run.specs.Running.{AreRegions}
@@ -47,7 +44,6 @@ module _ (layout : Layout) (regions : List Region) (stripes : List (ListSeen Mem
   abbrev rows : List (List LaneSeen)
   rows = rows_in stripes
 
-
   some_row : 0 < length rows
   some_row = omega (arith, fit.stripes, layout.some_stripe)
 
@@ -68,13 +64,13 @@ module _ (layout : Layout) (regions : List Region) (stripes : List (ListSeen Mem
       let below : s < length rows = mod_below (r + p) (length rows) some_row in
       let stripe = item_at stripes s (omega (arith, rows_len)) in
       let row : get_or rows s [] ≡ map lane_seen stripe.0.items =
-        get_or-map (λ (st : ListSeen MemLane). map lane_seen st.items) stripes s stripe.0 [] (omega (arith, rows_len)) ∙ ap (λ (st : ListSeen MemLane). map lane_seen st.items) stripe.1 in
+      get_or-map (λ (st : ListSeen MemLane). map lane_seen st.items) stripes s stripe.0 [] (omega (arith, rows_len)) ∙ ap (λ (st : ListSeen MemLane). map lane_seen st.items) stripe.1 in
       let there : r < length stripe.0.items = omega (arith, ap length row, row_len layout.page_size rows lanes_fit s below, length-map stripe.0.items lane_seen) in
       let lane = item_at stripe.0.items r there in
       let seen : get_or (get_or rows s []) r no_lane ≡ lane_seen lane.0 =
-        ap (λ (ls : List LaneSeen). get_or ls r no_lane) row ∙ get_or-map lane_seen stripe.0.items r lane.0 no_lane there ∙ ap lane_seen lane.1 in
+      ap (λ (ls : List LaneSeen). get_or ls r no_lane) row ∙ get_or-map lane_seen stripe.0.items r lane.0 no_lane there ∙ ap lane_seen lane.1 in
       let origin : lane_origin lane.0 ≡ memory_origin r (get_or (pages_in rows) r 0) layout.page_size (length rows) s =
-        ap (λ (l : LaneSeen). l.origin) (sym seen) ∙ lane_is layout.page_size rows lanes_fit s r below region in
+      ap (λ (l : LaneSeen). l.origin) (sym seen) ∙ lane_is layout.page_size rows lanes_fit s r below region in
       let has : has_page (lane_origin lane.0) p ≡ true = ap (λ (o : Origin). has_page o p) origin ∙ page_there layout.page_size rows lanes_fit r p some_row region inside in
       ap (λ (l : LaneSeen). length (unwrap_or (told_at l.told p) [])) seen
       ∙ lane_whole lane.0 p has
@@ -113,8 +109,8 @@ regions_fit layout ls stripes fit all =
     record {
       count = count;
       sizes = λ r below.
-        region_len layout.page_size rows fits r (omega (arith, count))
-        ∙ ap (λ (ps : List ℕ). get_or ps r 0 * layout.page_size) pages
-        ∙ sizes_whole layout.page_size (regions_of ls) fit.whole r below;
-      small = sizes_small (regions_of ls) ls all
+          region_len layout.page_size rows fits r (omega (arith, count))
+          ∙ ap (λ (ps : List ℕ). get_or ps r 0 * layout.page_size) pages
+          ∙ sizes_whole layout.page_size (regions_of ls) fit.whole r below;
+      small = sizes_small (regions_of ls) ls all;
     }

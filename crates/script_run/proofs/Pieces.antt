@@ -1,5 +1,5 @@
 -- A piece of a page is a piece of its region.
-use Rattle.std.proofs.Common.{◌≡◌, ℕ, ◌+◌, ◌*◌, ◌-◌, ◌<◌, ◌≤◌, List, ◌++◌, length, take, drop, refl, sym, ap, ◌∙◌, arith, rules}
+use Rattle.std.proofs.Common.{◌≡◌, ℕ, ◌+◌, ◌*◌, ◌≤◌, List, ◌++◌, length, take, drop, refl, ap, ◌∙◌, arith, rules}
 use Rattle.std.proofs.lemmas.List.{places, same_lists, drop-drop}
 use borrow.Rule.Slice.PartMut.{put_mid}
 use Rattle.page_base.specs.ListSeen.{spliced}

@@ -1,5 +1,5 @@
 -- The regions that lanes hold: a page of a lane is a page of its region.
-use Rattle.std.proofs.Common.{◌≡◌, ◌≢◌, inl, inr, ℕ, ◌+◌, ◌*◌, ◌-◌, ◌<◌, ◌≤◌, List, [], ◌++◌, length, take, drop, set, map, get_or, refl, sym, ap, subst, ◌∙◌, arith}
+use Rattle.std.proofs.Common.{◌≡◌, inl, inr, ℕ, ◌+◌, ◌*◌, ◌<◌, ◌≤◌, List, [], length, take, drop, set, map, get_or, sym, ap, subst, ◌∙◌, arith}
 use Rattle.std.proofs.lemmas.Bool.{cases_lt}
 use Rattle.std.proofs.lemmas.Nat.{mul-le}
 use Rattle.page_base.specs.ListSeen.{spliced}
@@ -39,9 +39,9 @@ module _ (size : ℕ) (rows : List (List LaneSeen)) (fit : FitRows size rows) wh
     module _ (p k : ℕ) (some : 0 < k) (inside : p * size + k ≤ length (bytes_at (contents_of rows) r)) where
       pub page_below : p < get_or (pages_in rows) r 0
       page_below = elim (cases_lt p (get_or (pages_in rows) r 0)) [
-          | inl below ↦ below
-          | inr above ↦ absurd (omega (arith, region_len, mul-le (get_or (pages_in rows) r 0) size p size above (omega arith)))
-        ]
+        | inl below ↦ below
+        | inr above ↦ absurd (omega (arith, region_len, mul-le (get_or (pages_in rows) r 0) size p size above (omega arith)))
+      ]
 
       pub page_inside : p * size + size ≤ length (bytes_at (contents_of rows) r)
       page_inside = omega (arith, region_len, rows_apart p (get_or (pages_in rows) r 0) size page_below)
@@ -59,6 +59,6 @@ module _ (size : ℕ) (rows : List (List LaneSeen)) (fit : FitRows size rows) wh
       piece_stored now place new fits len writes =
           ap (λ (ps : List ℕ). contents_by ps (page_told now)) (pages_in-same rows now writes.origins)
           ∙ contents_by-changed size (pages_in rows) (page_told rows) (page_told now) r p pages_whole known page_below (ap length writes.written ∙ len)
-              (λ q n _ _ other. writes.others q n (λ e _. other e)) (λ n _ other. writes.others r n (λ _ e. other e))
+          (λ q n _ _ other. writes.others q n (λ e _. other e)) (λ n _ other. writes.others r n (λ _ e. other e))
           ∙ ap (λ (xs : List ℕ). set (contents_of rows) r (spliced (bytes_at (contents_of rows) r) (p * size) xs)) (writes.written ∙ ap (λ (xs : List ℕ). spliced xs place new) page_is)
           ∙ ap (λ (xs : List ℕ). set (contents_of rows) r xs) (spliced_page size p place (bytes_at (contents_of rows) r) new fits page_inside)

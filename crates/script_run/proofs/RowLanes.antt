@@ -1,5 +1,5 @@
 -- One lane of a stripe, as a lane of all stripes.
-use Rattle.std.proofs.Common.{◌≡◌, ℕ, ◌+◌, ◌*◌, ◌/◌, ◌%◌, ◌<◌, List, [], length, set, map, get_or, Option, Some, None, refl, sym, ap, subst, ◌∙◌, arith}
+use Rattle.std.proofs.Common.{◌≡◌, ℕ, ◌+◌, ◌*◌, ◌/◌, ◌%◌, ◌<◌, List, [], length, set, map, get_or, Option, sym, ap, subst, ◌∙◌, arith}
 use Rattle.std.proofs.lemmas.List.{get_or-map, length-map, map-set, set-get_or}
 use Rattle.std.proofs.Math.Nat.{mul-div_cancel, div-one}
 use Rattle.page_base.specs.Pages.{stripe_of}
@@ -29,12 +29,12 @@ module _ (lanes : List MemLane) (r : ℕ) (lane : MemLane) (below : r < length l
 
   pub writes_row : (now : MemLane) (page : ℕ) (bytes : List ℕ) → lane_origin now ≡ lane_origin lane → told_at (lane_seen now).told page ≡ retold (told_at (lane_seen lane).told page) bytes → ChangesOnly page (lane_seen lane).told (lane_seen now).told → WritesLane r page bytes (map lane_seen lanes) (map lane_seen (set lanes r now))
   writes_row now page bytes e written others = record {
-      lane = lane_seen now;
-      row = map-set lane_seen lanes r now;
-      origin = e ∙ ap (λ (l : LaneSeen). l.origin) (sym seen_at);
-      written = written ∙ ap (λ (l : LaneSeen). retold (told_at l.told page) bytes) (sym seen_at);
-      others = subst (λ (l : LaneSeen). ChangesOnly page l.told (lane_seen now).told) (sym seen_at) others
-    }
+    lane = lane_seen now;
+    row = map-set lane_seen lanes r now;
+    origin = e ∙ ap (λ (l : LaneSeen). l.origin) (sym seen_at);
+    written = written ∙ ap (λ (l : LaneSeen). retold (told_at l.told page) bytes) (sym seen_at);
+    others = subst (λ (l : LaneSeen). ChangesOnly page l.told (lane_seen now).told) (sym seen_at) others;
+  }
 
 -- the page at a place
 pub page_at_place : (o : Origin) (n off : ℕ) → IsPlace o n off → off / o.page_size ≡ off / n
@@ -64,7 +64,7 @@ module _ (size n : ℕ) (stripes : List (ListSeen MemLane)) (stripe : ListSeen M
   pub place_there : (k z : ℕ) → k ≡ size → z ≡ size → IsPlace (get_or (map lane_seen stripe.items) r no_lane).origin k (p * z)
   place_there k z e f =
       subst (λ (row : List LaneSeen). IsPlace (get_or row r no_lane).origin k (p * z)) row_is
-        (subst (λ (x : ℕ). IsPlace (get_or (get_or (rows_in stripes) (stripe_at (rows_in stripes) r p) []) r no_lane).origin k (p * x)) (e ∙ sym f) (place_at size (rows_in stripes) fit r p region inside k e))
+      (subst (λ (x : ℕ). IsPlace (get_or (get_or (rows_in stripes) (stripe_at (rows_in stripes) r p) []) r no_lane).origin k (p * x)) (e ∙ sym f) (place_at size (rows_in stripes) fit r p region inside k e))
 
   page_is : (k z : ℕ) → k ≡ size → z ≡ size → p * z / k ≡ p
   page_is k z e f = ap (λ (x : ℕ). p * z / x) (e ∙ sym f) ∙ mul-div_cancel p (subst (λ (x : ℕ). 0 < x) (sym f) fit.sized)
@@ -72,8 +72,8 @@ module _ (size n : ℕ) (stripes : List (ListSeen MemLane)) (stripe : ListSeen M
   pub told_there : (bytes : List ℕ) (k z : ℕ) → k ≡ size → z ≡ size → IsPageOf (get_or (map lane_seen stripe.items) r no_lane).told (p * z / k) bytes → bytes ≡ page_told (rows_in stripes) r p
   told_there bytes k z e f told =
       told_page size (rows_in stripes) fit r p region inside bytes
-        (subst (λ (row : List LaneSeen). IsPageOf (get_or row r no_lane).told p bytes) (sym row_is)
-          (subst (λ (q : ℕ). IsPageOf (get_or (map lane_seen stripe.items) r no_lane).told q bytes) (page_is k z e f) told))
+      (subst (λ (row : List LaneSeen). IsPageOf (get_or row r no_lane).told p bytes) (sym row_is)
+      (subst (λ (q : ℕ). IsPageOf (get_or (map lane_seen stripe.items) r no_lane).told q bytes) (page_is k z e f) told))
 
   module _ (now : ListSeen MemLane) where
     rows_now : rows_in (set stripes s now) ≡ set (rows_in stripes) (stripe_at (rows_in stripes) r p) (map lane_seen now.items)
@@ -91,7 +91,7 @@ module _ (size n : ℕ) (stripes : List (ListSeen MemLane)) (stripe : ListSeen M
       writes_there : WritesLane r p bytes (get_or (rows_in stripes) (stripe_at (rows_in stripes) r p) []) (map lane_seen now.items)
       writes_there =
           subst (λ (row : List LaneSeen). WritesLane r p bytes row (map lane_seen now.items)) (sym row_is)
-            (subst (λ (q : ℕ). WritesLane r q bytes (map lane_seen stripe.items) (map lane_seen now.items)) (page_is k z e f) writes)
+          (subst (λ (q : ℕ). WritesLane r q bytes (map lane_seen stripe.items) (map lane_seen now.items)) (page_is k z e f) writes)
 
       pub page_written : WritesPage r p bytes (rows_in stripes) (rows_in (set stripes s now))
       page_written = subst (λ (rows : List (List LaneSeen)). WritesPage r p bytes (rows_in stripes) rows) (sym rows_now) (writes_page size (rows_in stripes) fit r p region inside bytes len (map lane_seen now.items) writes_there)

@@ -1,19 +1,18 @@
 -- The lanes of all stripes: which lane tells a page, and what a write to one lane changes.
-use Rattle.std.proofs.Common.{◌≡◌, ◌⊎◌, inl, inr, ℕ, zero, suc, ◌+◌, ◌*◌, ◌/◌, ◌%◌, ◌<◌, true, List, [], length, set, map, get_or, Option, Some, None, refl, sym, ap, subst, ◌∙◌, arith}
+use Rattle.std.proofs.Common.{◌≡◌, ◌⊎◌, inl, inr, ℕ, ◌+◌, ◌*◌, ◌/◌, ◌%◌, ◌<◌, true, List, [], length, set, map, get_or, Option, Some, None, refl, sym, ap, subst, ◌∙◌, arith}
 use Rattle.std.specs.Option.{IfSome, unwrap_or}
 use Rattle.std.specs.List.{enumerate_from}
 use Rattle.std.proofs.lemmas.Bool.{cases_eq, and_from, lt-ltb, eq-eqb}
-use Rattle.std.proofs.lemmas.List.{get_or-map, get_or-set_same, get_or-set_other, length-set, length-map, map-set, set-get_or, get_or_default}
+use Rattle.std.proofs.lemmas.List.{get_or-map, get_or-set_same, get_or-set_other, length-set, length-map, map-set, set-get_or}
 use Rattle.std.proofs.lemmas.List.FromFn.{length-enumerate_from, get_or-enumerate_from}
 use Rattle.std.proofs.lemmas.Nat.{mod_below}
 use Rattle.std.proofs.Math.Nat.{mul-div_cancel, div-one}
 use Rattle.page_base.specs.Lanes.{Origin, LaneSeen, has_page, told_at}
-use Rattle.store_trait.specs.Lanes.{IsPlace, IsPageOf, ChangesOnly, retold}
+use Rattle.store_trait.specs.Lanes.{IsPlace, IsPageOf, retold}
 use Rattle.store_trait.specs.Memory.{memory_origin}
 use Rattle.script_run.specs.Contents.{no_lane, row_told, page_told, pages_in, origins_of}
 use Rattle.script_run.specs.Fits.{row_origins}
 use Rattle.script_run.specs.Engine.{FitRows, WritesLane, WritesPage}
-
 
 abbrev pub lane_at : List (List LaneSeen) → (s r : ℕ) → LaneSeen
 lane_at rows s r = get_or (get_or rows s []) r no_lane
@@ -63,11 +62,11 @@ module _ (size : ℕ) (rows : List (List LaneSeen)) (fit : FitRows size rows) wh
         let page : p * n / size ≡ p = ap (λ (z : ℕ). p * z / size) e ∙ mul-div_cancel p fit.sized in
         let has : has_page o p ≡ true = page_there size rows fit.lanes r p fit.some region inside in
         let there : IsPlace o n (p * n) = record {
-            some = fit.sized;
-            one_page = e;
-            whole = ap (λ (z : ℕ). p * z) e ∙ ap (λ (q : ℕ). q * size) (sym page);
-            of_lane = ap (λ (q : ℕ). has_page o q) page ∙ has
-          } in
+          some = fit.sized;
+          one_page = e;
+          whole = ap (λ (z : ℕ). p * z) e ∙ ap (λ (q : ℕ). q * size) (sym page);
+          of_lane = ap (λ (q : ℕ). has_page o q) page ∙ has;
+        } in
         subst (λ (x : Origin). IsPlace x n (p * n)) (sym (origin_at (stripe_at rows r p) r (stripe_below r p) region)) there
 
     -- a page that is told whole is told
@@ -125,10 +124,10 @@ module _ (size : ℕ) (rows : List (List LaneSeen)) (fit : FitRows size rows) wh
           ∙ elim (cases_eq ((q + n) % length rows) (stripe_at rows r p)) [
             | inr other ↦ ap (λ (xs : List LaneSeen). row_told xs q n) (get_or-set_other rows (stripe_at rows r p) ((q + n) % length rows) row [] other)
             | inl same ↦
-              ap (λ (k : ℕ). row_told (get_or now k []) q n) same
-              ∙ ap (λ (xs : List LaneSeen). row_told xs q n) (get_or-set_same rows (stripe_at rows r p) row [] (stripe_below r p) ∙ writes.row)
-              ∙ in_row (cases_eq q r)
-              ∙ ap (λ (k : ℕ). row_told (get_or rows k []) q n) (sym same)
+                ap (λ (k : ℕ). row_told (get_or now k []) q n) same
+                ∙ ap (λ (xs : List LaneSeen). row_told xs q n) (get_or-set_same rows (stripe_at rows r p) row [] (stripe_below r p) ∙ writes.row)
+                ∙ in_row (cases_eq q r)
+                ∙ ap (λ (k : ℕ). row_told (get_or rows k []) q n) (sym same)
           ]
         where
           in_row : (q ≡ r) ⊎ (q ≡ r → ⊥) → row_told (set (get_or rows (stripe_at rows r p) []) r writes.lane) q n ≡ row_told (get_or rows (stripe_at rows r p) []) q n
@@ -150,18 +149,18 @@ module _ (size : ℕ) (rows : List (List LaneSeen)) (fit : FitRows size rows) wh
             some = subst (λ (n : ℕ). 0 < n) (sym as_many) fit.some;
             sized = fit.sized;
             lanes = λ k below.
-              ap (λ (os : List (List Origin)). get_or os k []) same_origins
-              ∙ fit.lanes k (subst (λ (n : ℕ). k < n) as_many below)
-              ∙ ap (λ (n : ℕ). row_origins size n k (pages_in rows)) (sym as_many)
-              ∙ ap (λ (ps : List ℕ). row_origins size (length now) k ps) (sym pages);
-            whole = λ q n known within. whole_now q n (subst (λ (ps : List ℕ). q < length ps) pages known) (subst (λ (ps : List ℕ). n < get_or ps q 0) pages within)
+                ap (λ (os : List (List Origin)). get_or os k []) same_origins
+                ∙ fit.lanes k (subst (λ (n : ℕ). k < n) as_many below)
+                ∙ ap (λ (n : ℕ). row_origins size n k (pages_in rows)) (sym as_many)
+                ∙ ap (λ (ps : List ℕ). row_origins size (length now) k ps) (sym pages);
+            whole = λ q n known within. whole_now q n (subst (λ (ps : List ℕ). q < length ps) pages known) (subst (λ (ps : List ℕ). n < get_or ps q 0) pages within);
           }
         where
           whole_now : (q n : ℕ) → q < length (pages_in rows) → n < get_or (pages_in rows) q 0 → length (page_told now q n) ≡ size
           whole_now q n known within = elim (cases_eq q r) [
-              | inr other ↦ ap length (told_others q n (λ e _. other e)) ∙ fit.whole q n known within
-              | inl same ↦ elim (cases_eq n p) [
-                  | inr other ↦ ap length (told_others q n (λ _ e. other e)) ∙ fit.whole q n known within
-                  | inl last ↦ ap length (ap (λ (k : ℕ). page_told now k n) same ∙ ap (λ (k : ℕ). page_told now r k) last ∙ told_now) ∙ len
-                ]
+            | inr other ↦ ap length (told_others q n (λ e _. other e)) ∙ fit.whole q n known within
+            | inl same ↦ elim (cases_eq n p) [
+              | inr other ↦ ap length (told_others q n (λ _ e. other e)) ∙ fit.whole q n known within
+              | inl last ↦ ap length (ap (λ (k : ℕ). page_told now k n) same ∙ ap (λ (k : ℕ). page_told now r k) last ∙ told_now) ∙ len
             ]
+          ]

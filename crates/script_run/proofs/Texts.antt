@@ -1,5 +1,5 @@
 -- A reply, appended piece by piece.
-use Rattle.std.proofs.Common.{◌≡◌, ℕ, ◌<◌, List, [], ◌∷◌, ◌++◌, length, codes, refl, sym, ap, ◌∙◌, arith, append_assoc}
+use Rattle.std.proofs.Common.{◌≡◌, ℕ, ◌<◌, List, [], ◌∷◌, ◌++◌, length, codes, refl, ap, ◌∙◌, arith, append_assoc}
 use Rattle.hex.specs.Hex.{encode_lower}
 use Rattle.script_run.specs.Serial.{load_reply}
 

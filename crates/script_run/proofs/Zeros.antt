@@ -1,5 +1,5 @@
 -- Lanes over zeros, as the lanes of a workload.
-use Rattle.std.proofs.Common.{◌≡◌, inl, inr, ℕ, zero, suc, ◌+◌, ◌*◌, ◌/◌, ◌%◌, ◌<◌, ◌≤◌, Bool, true, ◌&&◌, eqb, List, [], ◌∷◌, ◌++◌, length, take, drop, map, replicate, get_or, Option, Some, slice_get, refl, sym, ap, subst, ◌∙◌, arith, append-nil}
+use Rattle.std.proofs.Common.{◌≡◌, ℕ, zero, suc, ◌+◌, ◌*◌, ◌/◌, ◌%◌, ◌<◌, ◌≤◌, Bool, true, ◌&&◌, eqb, List, [], ◌∷◌, ◌++◌, length, take, drop, map, replicate, get_or, Option, Some, refl, sym, ap, ◌∙◌, arith, append-nil}
 use Rattle.std.specs.Option.{unwrap_or}
 use Rattle.std.specs.List.{flat_map, list_all}
 use Rattle.std.proofs.lemmas.Bool.{and_from, and_parts, lt-ltb, eq-eqb, eqb-true}
@@ -7,24 +7,23 @@ use Rattle.std.proofs.lemmas.List.{get_or-map, length-map, length-replicate, get
 use Rattle.std.proofs.lemmas.Option.{slice_get-get_or}
 use Rattle.std.proofs.lemmas.Nat.{div-add-mod', mod_below}
 use Rattle.std.proofs.Math.Nat.{div-one, add-sub_cancel_left}
-use Rattle.page_base.specs.Lanes.{Origin, LaneSeen, has_page, told_at}
-use Rattle.page_base.specs.Backings.{in_memory, in_file, in_files}
+use Rattle.page_base.specs.Lanes.{Origin, LaneSeen, has_page}
 use Rattle.page_base.specs.declared.layout.Layout.{Layout}
 use Rattle.store_trait.specs.Memory.{memory_origin, page_of, share_seen}
 use Rattle.store_trait.specs.MemLanes.{lane_seen, AreLanesOf}
 use Rattle.store_trait.proofs.Told.{told_of_page}
 use Rattle.store_trait.specs.declared.mem_lane.MemLane.{MemLane}
-use Rattle.workload_text.specs.Line.{Line, script_line, map_line}
+use Rattle.workload_text.specs.Line.{Line}
 use Rattle.workload_text.specs.Grammar.{Region}
-use Rattle.workload_text.specs.Accepted.{AllFit, regions_of}
+use Rattle.workload_text.specs.Accepted.{regions_of}
 use Rattle.workload_text.specs.View.{region_line, command_line, script_lines, lines_of}
 use Rattle.workload_text.specs.declared.workload.MapLine.{MapLine}
 use Rattle.workload_text.specs.declared.workload.Command.{Command}
 use Rattle.workload_text.specs.declared.workload.Command.TheVariants.{Load, Store, Prefetch, Flush, Unmap}
 use Rattle.workload_text.specs.declared.workload.Script.{Script}
 use Rattle.workload_text.specs.declared.workload.Workload.{Workload}
-use Rattle.script_run.specs.Contents.{joined, contents_by, contents_of, page_told, row_told, pages_in, origins_of, no_lane}
-use Rattle.script_run.specs.Fits.{FitLanes, row_origins, pages_of, has_whole_pages}
+use Rattle.script_run.specs.Contents.{joined, contents_by, contents_of, page_told, row_told, pages_in, origins_of}
+use Rattle.script_run.specs.Fits.{FitLanes, has_whole_pages}
 use Rattle.script_run.proofs.Contents.{joined-same}
 use Rattle.script_run.proofs.Openings.{item_at}
 use Rattle.script_run.proofs.Streaming.{take_take_drop}
@@ -63,13 +62,13 @@ only_map (x ∷ y ∷ ms) m some few is = absurd (omega arith)
 
 pub fit_none : (layout : Layout) (rows : List (List LaneSeen)) → rows ≡ replicate layout.stripes [] → FitLanes layout [] rows
 fit_none layout rows e = record {
-    stripes = ap length e ∙ length-replicate layout.stripes [];
-    whole = refl;
-    lanes = λ s below.
+  stripes = ap length e ∙ length-replicate layout.stripes [];
+  whole = refl;
+  lanes = λ s below.
       ap (λ (xs : List (List LaneSeen)). get_or (origins_of xs) s []) e
       ∙ get_or-map (λ (row : List LaneSeen). map (λ (l : LaneSeen). l.origin) row) (replicate layout.stripes []) s [] [] (omega (arith, ap length e))
-      ∙ ap (λ (row : List LaneSeen). map (λ (l : LaneSeen). l.origin) row) (get_or-replicate layout.stripes s [] [] (omega (arith, ap length e, length-replicate {A = List LaneSeen} layout.stripes [])))
-  }
+      ∙ ap (λ (row : List LaneSeen). map (λ (l : LaneSeen). l.origin) row) (get_or-replicate layout.stripes s [] [] (omega (arith, ap length e, length-replicate {A = List LaneSeen} layout.stripes [])));
+}
 
 pub contents_none : (layout : Layout) (rows : List (List LaneSeen)) → rows ≡ replicate layout.stripes [] → contents_of rows ≡ []
 contents_none layout rows e =
@@ -106,10 +105,10 @@ module _ (layout : Layout) (g : Region) (lanes : List MemLane) (whole : g.size �
 
   pub fit_one : has_whole_pages layout.page_size (g ∷ []) ≡ true → FitLanes layout (g ∷ []) rows
   fit_one pages = record {
-      stripes = count;
-      whole = pages;
-      lanes = λ s below. origins_is s below ∙ ap (λ (n : ℕ). memory_origin 0 (g.size / layout.page_size) layout.page_size n s ∷ []) (sym count)
-    }
+    stripes = count;
+    whole = pages;
+    lanes = λ s below. origins_is s below ∙ ap (λ (n : ℕ). memory_origin 0 (g.size / layout.page_size) layout.page_size n s ∷ []) (sym count);
+  }
 
   pages_is : pages_in rows ≡ g.size / layout.page_size ∷ []
   pages_is = ap (λ (os : List Origin). map (λ (o : Origin). o.pages) os) (origins_is 0 (omega (arith, count, layout.some_stripe)))
@@ -129,10 +128,10 @@ module _ (layout : Layout) (g : Region) (lanes : List MemLane) (whole : g.size �
       let len : length {A = ℕ} (replicate g.size 0) ≡ g.size = length-replicate g.size 0 in
       ap (λ (ps : List ℕ). contents_by ps (page_told rows)) pages_is
       ∙ ap (λ (xs : List ℕ). xs ∷ [])
-        (joined-same n (page_of layout.page_size (replicate g.size 0)) (page_told rows 0) told_is
-          ∙ joined-page_of layout.page_size n (replicate g.size 0) (omega (arith, len, whole))
-          ∙ ap (λ (k : ℕ). take k (replicate g.size 0)) (sym whole)
-          ∙ take_all g.size (replicate g.size 0) (omega (arith, len)))
+      (joined-same n (page_of layout.page_size (replicate g.size 0)) (page_told rows 0) told_is
+      ∙ joined-page_of layout.page_size n (replicate g.size 0) (omega (arith, len, whole))
+      ∙ ap (λ (k : ℕ). take k (replicate g.size 0)) (sym whole)
+      ∙ take_all g.size (replicate g.size 0) (omega (arith, len)))
 
 -- a region that is whole pages
 pub whole_of : (z : ℕ) (g : Region) → has_whole_pages z (g ∷ []) ≡ true → g.size ≡ g.size / z * z

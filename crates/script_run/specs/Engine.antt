@@ -1,5 +1,5 @@
 -- What a serial run sees of its lanes and of its engine.
-use Rattle.std.specs.Prelude.{◌≡◌, ◌≢◌, ℕ, ◌<◌, List, [], map, length, slice_index_or, slice_set}
+use Rattle.std.specs.Prelude.{◌≡◌, ℕ, ◌<◌, List, [], length, slice_index_or, slice_set}
 use Rattle.page_base.specs.Lanes.{Origin, LaneSeen, told_at}
 use Rattle.store_trait.specs.Lanes.{ChangesOnly, retold}
 use Rattle.script_run.specs.Contents.{page_told, pages_in, origins_of, no_lane}

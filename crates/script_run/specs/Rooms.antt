@@ -1,6 +1,6 @@
 -- The room that replies take in the text.
 use Rattle.std.specs.Prelude.{ℕ, ◌+◌, ◌*◌, List, [], ◌∷◌, length}
-use Rattle.workload_text.specs.Line.{Line, map_line, script_line, load_line, store_line, prefetch_line, flush_line, unmap_line}
+use Rattle.workload_text.specs.Line.{Line, map_line, script_line, load_line}
 
 abbrev pub room : Line → ℕ
 room (map_line name kept size writable) = 0

@@ -43,7 +43,11 @@ impl Engine {
     ghost use Rattle.script_run.specs.Engine.{FitRows};
 
     /// The only refusal is want of memory, and hands the lanes back.
-    pub(crate) fn new(alloc: Global, layout: Layout, lanes: LaneSet<MemLane>) -> Result<Engine, LaneSet<MemLane>>
+    pub(crate) fn new(
+        alloc: Global,
+        layout: Layout,
+        lanes: LaneSet<MemLane>,
+    ) -> Result<Engine, LaneSet<MemLane>>
         requires fit { FitRows layout.page_size (rows_seen lanes) }
         requires stripes { length lanes.stripes.items ≡ layout.stripes }
         ensures page_size { IfOk result (λ e. e.page_size ≡ layout.page_size) }

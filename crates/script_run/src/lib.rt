@@ -15,6 +15,8 @@ mod serial_run;
 mod settings;
 mod sink;
 mod source;
+#[cfg(test)]
+mod tests;
 
 pub use memory::{memory_lanes, pages_are_whole};
 pub use serial_run::{RunBack, SerialEnd, serial};

@@ -59,7 +59,11 @@ fn zero_lanes(alloc: Global, layout: &Layout, bytes: usize) -> Result<List<MemLa
 }
 
 /// One lane for each stripe and region of a workload, over zeros.
-pub fn memory_lanes(alloc: Global, settings: &Settings, workload: &Workload) -> Result<LaneSet<MemLane>, OutOfMemory>
+pub fn memory_lanes(
+    alloc: Global,
+    settings: &Settings,
+    workload: &Workload,
+) -> Result<LaneSet<MemLane>, OutOfMemory>
     requires runnable { IsRunnable (lines_of workload.now) }
     requires whole { has_whole_pages settings.now.layout.page_size (regions_of (lines_of workload.now)) ≡ true }
     ensures fit { IfOk result (λ lanes. FitLanes settings.now.layout (regions_of (lines_of workload.now)) (rows_seen lanes)) }

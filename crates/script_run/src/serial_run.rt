@@ -1,7 +1,7 @@
 //! A serial run: every script of a workload, one after another, in file order.
 //!
 //! All memory is taken before the first line runs, so the only refusal comes at opening, and hands the lanes back.
-ghost use Rattle.std.specs.Prelude.{◌≡◌, ◌+◌, ◌∷◌, [], length, sum, IfOk, IfErr, IfSome};
+ghost use Rattle.std.specs.Prelude.{◌≡◌, ◌+◌, ◌<◌, ◌^◌, ◌∷◌, [], length, sum, IfOk, IfErr};
 ghost use Rattle.workload_text.specs.View.{lines_of, script_lines, command_line};
 ghost use Rattle.workload_text.specs.Accepted.{IsRunnable, regions_of, loaded_bytes};
 ghost use Rattle.script_run.specs.Serial.{serial_text, serial_end, serial_loads};
@@ -98,28 +98,29 @@ fn room_of_command(command: &Command) -> usize
     }
 }
 
-/// None where the number is no `usize`.
-fn room_of_script(script: &Script) -> Option<usize>
-    ensures { IfSome result (λ n. n ≡ rooms (script_lines script.now)) }
+fn room_of_script(script: &Script) -> usize
+    requires { rooms (script_lines script.now) < 2 ^ 64 }
+    ensures { result ≡ rooms (script_lines script.now) }
 {
-    let mut room = script.name.len().checked_add(8)?;
+    let mut room = script.name.len() + 8;
     let commands = script.commands.as_slice();
     for i in 0..commands.len() {
-        room = room.checked_add(room_of_command(&commands[i]))?;
+        room += room_of_command(&commands[i]);
     }
-    Some(room)
+    room
 }
 
-/// None where the number is no `usize`.
-fn room_of(workload: &Workload) -> Option<usize>
-    ensures { IfSome result (λ n. n ≡ rooms (lines_of workload.now)) }
+/// The bytes of all replies. The limits of the language keep the number small.
+fn room_of(workload: &Workload) -> usize
+    requires { rooms (lines_of workload.now) < 2 ^ 64 }
+    ensures { result ≡ rooms (lines_of workload.now) }
 {
     let mut room = 0usize;
     let scripts = workload.scripts.as_slice();
     for i in 0..scripts.len() {
-        room = room.checked_add(room_of_script(&scripts[i])?)?;
+        room += room_of_script(&scripts[i]);
     }
-    Some(room)
+    room
 }
 
 /// Runs the scripts one after another over lanes in memory. The text, what the lanes hold afterwards and the loaded bytes
@@ -139,10 +140,7 @@ pub fn serial(
     ensures sum { IfOk result (λ e. e.sum ≡ sum (serial_loads (contents_of (rows_seen lanes)) (lines_of workload.now))) }
     ensures back { IfErr result (λ back. back ≡ RunBack.OutOfMemory lanes) }
 {
-    let Some(room) = room_of(workload) else {
-        return Err(RunBack::OutOfMemory { lanes });
-    };
-    let Ok(mut replies) = Replies::with_room(alloc, room) else {
+    let Ok(mut replies) = Replies::with_room(alloc, room_of(workload)) else {
         return Err(RunBack::OutOfMemory { lanes });
     };
     let Ok(mut buf) = vec![in alloc; 0u8; MOST_ACCESS] else {

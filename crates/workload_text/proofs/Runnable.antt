@@ -1,8 +1,10 @@
 -- The lines of an accepted text can be run.
-use Rattle.std.proofs.Common.{◌≡◌, ℕ, zero, suc, ◌<◌, ◌≤◌, ◌+◌, List, [], ◌∷◌, ◌++◌, length, refl, sym, ap, ◌∙◌, arith, append_assoc, length-append}
+use Rattle.std.proofs.Common.{◌≡◌, ℕ, zero, suc, true, ◌&&◌, nat_le, ◌<◌, ◌≤◌, ◌+◌, List, [], ◌∷◌, ◌++◌, length, refl, sym, ap, ◌∙◌, arith, append_assoc, length-append}
+use Rattle.std.proofs.lemmas.Bool.{leb-true, and_parts}
+use Rattle.std.specs.List.{list_all}
 use Rattle.page_base.specs.Backings.{in_memory, in_file, in_files}
 use Rattle.workload_text.specs.Line.{Line, map_line, script_line, load_line, store_line, prefetch_line, flush_line, unmap_line}
-use Rattle.workload_text.specs.Grammar.{Said, Region, nothing, after, name_at, size_at, writable_at, MayReach, MayStore, AllAllowed}
+use Rattle.workload_text.specs.Grammar.{Said, Region, nothing, after, name_at, size_at, writable_at, is_name, is_name_byte, MayReach, MayStore, AllAllowed}
 use Rattle.workload_text.proofs.Names.{region_of-below}
 use Rattle.workload_text.specs.Accepted.{regions_of, script_count, command_count, loaded_bytes, LiesInside, StoresInside, AllFit, IsRunnable}
 
@@ -40,6 +42,9 @@ store_fits s more gs r off bytes e h =
       bytes_all = h.bytes_all;
     }
 
+name_fits : (name : List ℕ) → is_name name ≡ true → length name ≤ 32
+name_fits name named = leb-true (length name) 32 (and_parts (nat_le (length name) 32) (list_all is_name_byte name) (and_parts (nat_le 1 (length name)) (nat_le (length name) 32 && list_all is_name_byte name) named).1).0
+
 all_fit : (s : Said) (ls : List Line) (gs : List Region) → gs ≡ s.regions ++ regions_of ls → AllAllowed s ls → AllFit gs ls
 all_fit s [] gs e h = tt
 all_fit s (map_line name in_memory size w ∷ ls) gs e h =
@@ -47,7 +52,7 @@ all_fit s (map_line name in_memory size w ∷ ls) gs e h =
     (record { least = h.0.least; most = h.0.most }, all_fit (after s (map_line name in_memory size w)) ls gs (e ∙ sym (append_assoc s.regions (g ∷ []) (regions_of ls))) h.1)
 all_fit s (map_line name (in_file p) size w ∷ ls) gs e h = absurd h.0
 all_fit s (map_line name (in_files p f) size w ∷ ls) gs e h = absurd h.0
-all_fit s (script_line name ∷ ls) gs e h = (tt, all_fit (after s (script_line name)) ls gs e h.1)
+all_fit s (script_line name ∷ ls) gs e h = (name_fits name h.0.named, all_fit (after s (script_line name)) ls gs e h.1)
 all_fit s (load_line r off len ∷ ls) gs e h = (reach_fits s (regions_of ls) gs r off len e h.0.reach, all_fit (after s (load_line r off len)) ls gs e h.1)
 all_fit s (store_line r off bytes ∷ ls) gs e h = (store_fits s (regions_of ls) gs r off bytes e h.0, all_fit (after s (store_line r off bytes)) ls gs e h.1)
 all_fit s (prefetch_line r off len ∷ ls) gs e h = absurd h.0

@@ -49,7 +49,7 @@ pub record IsMemorySize (size : ℕ) : Type 0 where
 -- what one line is good for, among these regions; the forms that aren't built yet are none
 abbrev pub Fits : List Region → Line → Type 0
 Fits regions (map_line name in_memory size writable) = IsMemorySize size
-Fits regions (script_line name) = Unit {0}
+Fits regions (script_line name) = length name ≤ 32
 Fits regions (load_line r off len) = LiesInside regions r off len
 Fits regions (store_line r off bytes) = StoresInside regions r off bytes
 Fits regions l = ⊥

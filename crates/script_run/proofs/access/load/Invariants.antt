@@ -4,10 +4,10 @@ use Rattle.script_run.proofs.access.load.Given as goal
 
 abbrev pub invariant-loop-done : goal.invariant-loop-done
 invariant-loop-done l = record {
-    same : l.engine ≡ l.initial.engine;
-    within : l.done ≤ length l.buf;
-    front : take l.done l.buf ≡ take l.done (drop l.off (bytes_at l.initial.engine.regions l.region))
-  }
+  same : l.engine ≡ l.initial.engine;
+  within : l.done ≤ length l.buf;
+  front : take l.done l.buf ≡ take l.done (drop l.off (bytes_at l.initial.engine.regions l.region));
+}
 
 abbrev pub decreases-loop-done : goal.decreases-loop-done
 decreases-loop-done l = length l.initial.buf - l.done

@@ -1,18 +1,15 @@
-use Rattle.std.proofs.Common.{◌≡◌, ◌+◌, ◌*◌, ◌-◌, ◌/◌, ◌%◌, ◌≤◌, ◌<◌, ℕ, List, length, take, drop, set, refl, sym, ap, ◌∙◌, arith}
+use Rattle.std.proofs.Common.{◌≡◌, ◌+◌, ◌*◌, ◌-◌, ◌/◌, ◌%◌, ◌≤◌, ℕ, length, take, drop, refl, sym, ap, ◌∙◌, arith}
 use Rattle.std.proofs.lemmas.Nat.{div-add-mod'}
-use Rattle.page_base.specs.ListSeen.{spliced}
-use Rattle.script_run.specs.Serial.{bytes_at}
-use Rattle.script_run.specs.Engine.{EngineSeen}
 use Rattle.script_run.proofs.Accesses.{stored_none, stored_more}
 use Rattle.script_run.proofs.access.store.Goals as goal
 
 pub loop-done-init : goal.loop-done-init
 loop-done-init c = record {
-    page_size = refl;
-    origins = refl;
-    within = omega arith;
-    regions = sym (stored_none c.args.engine.now.regions c.args.region c.args.off)
-  }
+  page_size = refl;
+  origins = refl;
+  within = omega arith;
+  regions = sym (stored_none c.args.engine.now.regions c.args.region c.args.off);
+}
 
 pub loop-done-preserved : goal.loop-done-preserved
 loop-done-preserved c =
@@ -29,5 +26,5 @@ loop-done-preserved c =
       origins = c.store_piece.ensures.origins ∙ i.origins;
       within = fits;
       regions = c.store_piece.ensures.regions
-        ∙ stored_more c.args.engine.now.regions c.loop-done.engine.regions c.args.bytes.now c.args.region c.args.off done c.requires.region c.requires.inside i.within i.regions n _ (take (done + n - done) (drop done c.args.bytes.now)) fits place (ap (λ (j : ℕ). take j (drop done c.args.bytes.now)) (omega arith))
+          ∙ stored_more c.args.engine.now.regions c.loop-done.engine.regions c.args.bytes.now c.args.region c.args.off done c.requires.region c.requires.inside i.within i.regions n _ (take (done + n - done) (drop done c.args.bytes.now)) fits place (ap (λ (j : ℕ). take j (drop done c.args.bytes.now)) (omega arith));
     }

@@ -1,4 +1,4 @@
-use Rattle.std.proofs.Common.{◌≡◌, ℕ, ◌/◌, List, length, get_or, map, sym, ap, subst, ◌∙◌}
+use Rattle.std.proofs.Common.{ℕ, ◌/◌, get_or, map, sym, ap, subst, ◌∙◌}
 use Rattle.page_base.specs.Lanes.{LaneSeen}
 use Rattle.store_trait.specs.Lanes.{IsPageOf}
 use Rattle.store_trait.specs.MemLanes.{lane_seen, lane_origin}
@@ -12,8 +12,8 @@ returns-clause-bytes c =
     let lane = c.index_mut-lane.result.now in
     let at = seen_at lanes c.args.region lane c.requires.lane c.index_mut-lane.ensures.value in
     subst (λ (q : ℕ). IsPageOf (get_or (map lane_seen lanes) c.args.region no_lane).told q c.read_from_store.new.buf)
-      (ap (λ (l : LaneSeen). c.args.off / l.origin.page_size) (sym at) ∙ page_at_place _ _ _ c.requires.place)
-      (subst (λ (l : LaneSeen). IsPageOf l.told (c.args.off / (lane_origin lane).page_size) c.read_from_store.new.buf) (sym at) c.in-Ok.ensures.bytes)
+    (ap (λ (l : LaneSeen). c.args.off / l.origin.page_size) (sym at) ∙ page_at_place _ _ _ c.requires.place)
+    (subst (λ (l : LaneSeen). IsPageOf l.told (c.args.off / (lane_origin lane).page_size) c.read_from_store.new.buf) (sym at) c.in-Ok.ensures.bytes)
 
 pub returns-clause-same : goal.returns-clause-same
 returns-clause-same c =

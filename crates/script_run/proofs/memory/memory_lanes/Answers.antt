@@ -1,8 +1,6 @@
-use Rattle.std.proofs.Common.{◌≡◌, ◌<◌, ◌≤◌, ◌*◌, ◌/◌, ℕ, true, eqb, List, [], ◌∷◌, length, map, replicate, get_or, sym, ap, subst, ◌∙◌, arith}
+use Rattle.std.proofs.Common.{◌≡◌, ◌/◌, ℕ, true, eqb, List, [], ◌∷◌, length, map, replicate, get_or, sym, ap, subst, ◌∙◌, arith}
 use Rattle.std.proofs.lemmas.Bool.{eqb-true, eqb-false}
 use Rattle.std.proofs.lemmas.List.{nil_from_length}
-use Rattle.page_base.specs.Lanes.{LaneSeen}
-use Rattle.page_base.specs.ListSeen.{ListSeen}
 use Rattle.store_trait.specs.MemLanes.{lane_seen, AreLanesOf}
 use Rattle.store_trait.specs.declared.mem_lane.MemLane.{MemLane}
 use Rattle.workload_text.specs.Grammar.{Region}
@@ -43,11 +41,11 @@ returns-clause-fit c =
     let regions : regions_of (lines_of w) ≡ g ∷ [] = regions_are w ∙ ap (map region_of) one in
     let pages = subst (λ (gs : List Region). has_whole_pages layout.page_size gs ≡ true) regions c.requires.whole in
     let are : AreLanesOf 0 (g.size / layout.page_size) layout.page_size layout.stripes (replicate g.size 0) c.in_ok-lanes.lanes.items =
-      subst (λ (y : MapLine). AreLanesOf 0 (y.length / layout.page_size) layout.page_size layout.stripes (replicate y.length 0) c.in_ok-lanes.lanes.items) (sym c.index-maps-0.is) c.in_ok-lanes.ensures in
+    subst (λ (y : MapLine). AreLanesOf 0 (y.length / layout.page_size) layout.page_size layout.stripes (replicate y.length 0) c.in_ok-lanes.lanes.items) (sym c.index-maps-0.is) c.in_ok-lanes.ensures in
     let rows : rows_in c.in_ok-stripes-2.stripes.items ≡ map (λ (l : MemLane). lane_seen l ∷ []) c.in_ok-lanes.lanes.items =
-      c.in_ok-stripes-2.ensures ∙ ap (map (λ (l : MemLane). lane_seen l ∷ [])) c.into_vec.ensures in
+    c.in_ok-stripes-2.ensures ∙ ap (map (λ (l : MemLane). lane_seen l ∷ [])) c.into_vec.ensures in
     subst (λ (gs : List Region). FitLanes layout gs (rows_in c.in_ok-stripes-2.stripes.items)) (sym regions)
-      (fit_one layout g c.in_ok-lanes.lanes.items (whole_of layout.page_size g pages) are (rows_in c.in_ok-stripes-2.stripes.items) rows pages)
+    (fit_one layout g c.in_ok-lanes.lanes.items (whole_of layout.page_size g pages) are (rows_in c.in_ok-stripes-2.stripes.items) rows pages)
 
 pub returns-clause-zeros : goal.returns-clause-zeros
 returns-clause-zeros c =
@@ -60,8 +58,8 @@ returns-clause-zeros c =
     let regions : regions_of (lines_of w) ≡ g ∷ [] = regions_are w ∙ ap (map region_of) one in
     let pages = subst (λ (gs : List Region). has_whole_pages layout.page_size gs ≡ true) regions c.requires.whole in
     let are : AreLanesOf 0 (g.size / layout.page_size) layout.page_size layout.stripes (replicate g.size 0) c.in_ok-lanes.lanes.items =
-      subst (λ (y : MapLine). AreLanesOf 0 (y.length / layout.page_size) layout.page_size layout.stripes (replicate y.length 0) c.in_ok-lanes.lanes.items) (sym c.index-maps-0.is) c.in_ok-lanes.ensures in
+    subst (λ (y : MapLine). AreLanesOf 0 (y.length / layout.page_size) layout.page_size layout.stripes (replicate y.length 0) c.in_ok-lanes.lanes.items) (sym c.index-maps-0.is) c.in_ok-lanes.ensures in
     let rows : rows_in c.in_ok-stripes-2.stripes.items ≡ map (λ (l : MemLane). lane_seen l ∷ []) c.in_ok-lanes.lanes.items =
-      c.in_ok-stripes-2.ensures ∙ ap (map (λ (l : MemLane). lane_seen l ∷ [])) c.into_vec.ensures in
+    c.in_ok-stripes-2.ensures ∙ ap (map (λ (l : MemLane). lane_seen l ∷ [])) c.into_vec.ensures in
     contents_one layout g c.in_ok-lanes.lanes.items (whole_of layout.page_size g pages) are (rows_in c.in_ok-stripes-2.stripes.items) rows
     ∙ ap (λ (gs : List Region). map (λ (h : Region). replicate h.size 0) gs) (sym regions)

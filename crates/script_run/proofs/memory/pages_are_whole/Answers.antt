@@ -1,4 +1,4 @@
-use Rattle.std.proofs.Common.{◌≡◌, ◌%◌, ℕ, List, sym, ap, ◌∙◌, eqb}
+use Rattle.std.proofs.Common.{◌%◌, ℕ, List, sym, ap, ◌∙◌, eqb}
 use Rattle.std.specs.List.{list_all}
 use Rattle.workload_text.specs.Grammar.{Region}
 use Rattle.workload_text.specs.declared.workload.MapLine.{MapLine}

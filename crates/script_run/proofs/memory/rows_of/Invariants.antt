@@ -6,9 +6,9 @@ use Rattle.script_run.proofs.memory.rows_of.Given as goal
 
 abbrev pub invariant-lanes : goal.invariant-lanes
 invariant-lanes l = record {
-    rows : rows_in l.rows.items ++ map (λ (x : MemLane). lane_seen x ∷ []) l.lanes.items ≡ map (λ (x : MemLane). lane_seen x ∷ []) l.initial.lanes.items;
-    room : vec_len l.lanes ≤ l.rows.spare
-  }
+  rows : rows_in l.rows.items ++ map (λ (x : MemLane). lane_seen x ∷ []) l.lanes.items ≡ map (λ (x : MemLane). lane_seen x ∷ []) l.initial.lanes.items;
+  room : vec_len l.lanes ≤ l.rows.spare;
+}
 
 abbrev pub decreases-lanes : goal.decreases-lanes
 decreases-lanes l = vec_len l.lanes

@@ -3,6 +3,6 @@ use Rattle.script_run.proofs.replies.sum_of.Given as goal
 
 abbrev pub invariant-loop-byte : goal.invariant-loop-byte
 invariant-loop-byte l = record {
-    value : l.total ≡ sum (take l.byte-index l.bytes);
-    small : l.total ≤ 255 * l.byte-index
-  }
+  value : l.total ≡ sum (take l.byte-index l.bytes);
+  small : l.total ≤ 255 * l.byte-index;
+}

@@ -1,4 +1,4 @@
-use Rattle.std.proofs.Common.{List, map, ap, ◌∙◌, arith}
+use Rattle.std.proofs.Common.{List, map, ap, arith}
 use Rattle.std.specs.List.{flat_map}
 use Rattle.workload_text.specs.View.{region_line, script_lines}
 use Rattle.workload_text.specs.declared.workload.Script.{Script}
@@ -13,3 +13,11 @@ loop-i-init c =
 
 pub loop-i-preserved : goal.loop-i-preserved
 loop-i-preserved c = omega (arith, next_room script_lines c.as_slice-scripts.result.now c.loop-i.i c.index-scripts-i.result (omega arith) c.index-scripts-i.is)
+
+pub room_of_script-room-requires : goal.room_of_script-room-requires
+room_of_script-room-requires c =
+    omega (arith, c.requires, c.loop-i.invariant, next_room script_lines c.as_slice-scripts.result.now c.loop-i.i c.index-scripts-i.result (omega arith) c.index-scripts-i.is)
+
+pub overflow_add-room : goal.overflow_add-room
+overflow_add-room c =
+    omega (arith, c.requires, c.loop-i.invariant, c.room_of_script-room.ensures, next_room script_lines c.as_slice-scripts.result.now c.loop-i.i c.index-scripts-i.result (omega arith) c.index-scripts-i.is)

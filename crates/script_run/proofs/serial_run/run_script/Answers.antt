@@ -1,4 +1,4 @@
-use Rattle.std.proofs.Common.{◌≡◌, ◌<◌, ℕ, List, [], ◌∷◌, ◌++◌, length, take, map, sym, ap, subst, ◌∙◌, arith}
+use Rattle.std.proofs.Common.{◌≡◌, List, [], ◌∷◌, take, map, sym, ap, subst, ◌∙◌, arith}
 use Rattle.std.specs.List.{flat_map}
 use Rattle.std.proofs.lemmas.List.{take_all}
 use Rattle.std.proofs.lemmas.List.Concat.{flat_map_single}
@@ -21,12 +21,12 @@ run_command-requires-clause-may c =
     let one : Command → List Line = λ (k : Command). command_line k ∷ [] in
     let lines : map command_line s.commands.items ≡ flat_map one items = sym (flat_map_single command_line s.commands.items) ∙ ap (flat_map one) (sym c.as_slice-commands.ensures) in
     may_item (script_line s.name.items ∷ []) one items c.loop-i.i c.index-commands-i.result (omega arith) c.index-commands-i.is c.args.replies.now c.loop-i.replies c.args.engine.now c.loop-i.engine
-      (subst (λ (ls : List Line). MayRun (script_line s.name.items ∷ ls) c.args.replies.now c.args.engine.now.regions) lines c.requires.may) c.loop-i.invariant
+    (subst (λ (ls : List Line). MayRun (script_line s.name.items ∷ ls) c.args.replies.now c.args.engine.now.regions) lines c.requires.may) c.loop-i.invariant
 
 pub loop-i-preserved : goal.loop-i-preserved
 loop-i-preserved c =
     ran_item (script_line c.args.script.now.name.items ∷ []) (λ (k : Command). command_line k ∷ []) c.as_slice-commands.result.now c.loop-i.i c.index-commands-i.result (omega arith) c.index-commands-i.is c.args.replies.now c.loop-i.replies c.run_command.new.replies c.args.engine.now c.loop-i.engine c.run_command.new.engine
-      c.loop-i.invariant c.run_command.ensures
+    c.loop-i.invariant c.run_command.ensures
 
 pub returns : goal.returns
 returns c =

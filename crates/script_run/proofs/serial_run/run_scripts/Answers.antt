@@ -1,7 +1,6 @@
-use Rattle.std.proofs.Common.{◌≡◌, ◌<◌, ℕ, List, ◌++◌, length, take, map, sym, ap, subst, ◌∙◌, arith}
+use Rattle.std.proofs.Common.{List, ◌++◌, map, sym, subst, ◌∙◌, arith}
 use Rattle.std.specs.List.{flat_map}
 use Rattle.std.proofs.lemmas.List.{take_all}
-use Rattle.workload_text.specs.Line.{Line}
 use Rattle.workload_text.specs.View.{region_line, script_lines}
 use Rattle.workload_text.specs.declared.workload.Script.{Script}
 use Rattle.script_run.specs.Running.{MayRun, Ran}
@@ -16,12 +15,12 @@ pub run_script-requires-clause-may : goal.run_script-requires-clause-may
 run_script-requires-clause-may c =
     let w = c.args.workload.now in
     may_item (map region_line w.maps.items) script_lines c.as_slice-scripts.result.now c.loop-i.i c.index-scripts-i.result (omega arith) c.index-scripts-i.is c.args.replies.now c.loop-i.replies c.args.engine.now c.loop-i.engine
-      (subst (λ (ss : List Script). MayRun (map region_line w.maps.items ++ flat_map script_lines ss) c.args.replies.now c.args.engine.now.regions) (sym c.as_slice-scripts.ensures) c.requires.may) c.loop-i.invariant
+    (subst (λ (ss : List Script). MayRun (map region_line w.maps.items ++ flat_map script_lines ss) c.args.replies.now c.args.engine.now.regions) (sym c.as_slice-scripts.ensures) c.requires.may) c.loop-i.invariant
 
 pub loop-i-preserved : goal.loop-i-preserved
 loop-i-preserved c =
     ran_item (map region_line c.args.workload.now.maps.items) script_lines c.as_slice-scripts.result.now c.loop-i.i c.index-scripts-i.result (omega arith) c.index-scripts-i.is c.args.replies.now c.loop-i.replies c.run_script.new.replies c.args.engine.now c.loop-i.engine c.run_script.new.engine
-      c.loop-i.invariant c.run_script.ensures
+    c.loop-i.invariant c.run_script.ensures
 
 pub returns : goal.returns
 returns c =

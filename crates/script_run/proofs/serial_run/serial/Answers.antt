@@ -3,10 +3,17 @@ use Rattle.workload_text.specs.View.{lines_of}
 use Rattle.workload_text.specs.Accepted.{regions_of}
 use Rattle.script_run.specs.Running.{AreRegions}
 use Rattle.script_run.proofs.Openings.{fit_rows, regions_fit}
+use Rattle.script_run.proofs.Runs.{rooms_bounded}
 use Rattle.script_run.proofs.serial_run.serial.Goals as goal
 
 pub new-requires-clause-fit : goal.new-requires-clause-fit
 new-requires-clause-fit c = fit_rows c.args.settings.now.layout (regions_of (lines_of c.args.workload.now)) c.args.lanes.stripes.items c.requires.lanes
+
+pub room_of-requires : goal.room_of-requires
+room_of-requires c =
+    let lines = lines_of c.args.workload.now in
+    let can = c.requires.runnable in
+    omega (arith, rooms_bounded (regions_of lines) lines can.fit, can.loaded, can.commands, can.scripts)
 
 pub run_scripts-requires-clause-may : goal.run_scripts-requires-clause-may
 run_scripts-requires-clause-may c =
@@ -15,6 +22,6 @@ run_scripts-requires-clause-may c =
       regions = regions_of lines;
       fit = c.requires.runnable.fit;
       sized = subst (λ (b : List (List ℕ)). AreRegions (regions_of lines) b) (sym c.in-Ok-new.ensures.regions) (regions_fit c.args.settings.now.layout lines c.args.lanes.stripes.items c.requires.lanes c.requires.runnable.fit);
-      room = omega (arith, c.in-Some.ensures, c.in-Ok.ensures.room);
-      few = omega (arith, c.in-Ok.ensures.loaded, c.requires.runnable.loaded)
+      room = omega (arith, c.room_of.ensures, c.in-Ok.ensures.room);
+      few = omega (arith, c.in-Ok.ensures.loaded, c.requires.runnable.loaded);
     }

@@ -1,12 +1,11 @@
-use Rattle.std.proofs.Common.{◌≡◌, ◌<◌, ◌*◌, ◌/◌, ℕ, List, length, set, get_or, map, refl, sym, ap, subst, ◌∙◌, arith, length-set}
+use Rattle.std.proofs.Common.{◌≡◌, ◌<◌, List, length, set, get_or, map, sym, ap, subst, ◌∙◌, length-set}
 use Rattle.std.proofs.lemmas.List.{set-set}
 use Rattle.page_base.specs.ListSeen.{ListSeen}
 use Rattle.page_base.specs.Lanes.{LaneSeen}
 use Rattle.store_trait.specs.declared.mem_lane.MemLane.{MemLane}
-use Rattle.store_trait.specs.Lanes.{IsPlace, IsPageOf}
 use Rattle.store_trait.specs.MemLanes.{lane_seen}
-use Rattle.script_run.specs.Contents.{pages_in, page_told, no_lane, rows_in}
-use Rattle.script_run.specs.Engine.{LanesSeen, FitRows, WritesLane, WritesPage}
+use Rattle.script_run.specs.Contents.{pages_in, page_told, rows_in}
+use Rattle.script_run.specs.Engine.{LanesSeen, FitRows}
 use Rattle.script_run.proofs.RowLanes.{place_there, told_there, same_rows}
 use Rattle.script_run.proofs.lanes.Lanes.read_page.Goals as goal
 
@@ -44,7 +43,7 @@ invariant_of-self c =
     let same : rows_in (set (set i.stripes.items s c.replace.new.dest) s now) ≡ rows_in i.stripes.items = ap rows_in once ∙ same_rows i.layout.page_size i.layout.stripes i.stripes.items stripe s r p c.self.invariant.fit c.self.invariant.stripes c.stripe_of-stripe.ensures.stripe c.index_mut.ensures.value region inside now kept in
     record {
       fit = subst (λ (xs : List (List LaneSeen)). FitRows i.layout.page_size xs) (sym same) c.self.invariant.fit;
-      stripes = ap length once ∙ length-set i.stripes.items s now ∙ c.self.invariant.stripes
+      stripes = ap length once ∙ length-set i.stripes.items s now ∙ c.self.invariant.stripes;
     }
 
 pub returns-clause-bytes : goal.returns-clause-bytes

@@ -1,11 +1,10 @@
-use Rattle.std.proofs.Common.{◌≡◌, ◌<◌, ◌*◌, ◌/◌, ℕ, List, length, set, get_or, map, refl, sym, ap, subst, ◌∙◌, arith, length-set}
+use Rattle.std.proofs.Common.{◌≡◌, ◌<◌, ◌*◌, ◌/◌, List, length, set, get_or, map, sym, ap, subst, ◌∙◌, length-set}
 use Rattle.std.proofs.lemmas.List.{set-set}
 use Rattle.page_base.specs.ListSeen.{ListSeen}
 use Rattle.page_base.specs.Lanes.{LaneSeen}
 use Rattle.store_trait.specs.declared.mem_lane.MemLane.{MemLane}
-use Rattle.store_trait.specs.Lanes.{IsPlace, IsPageOf}
 use Rattle.store_trait.specs.MemLanes.{lane_seen}
-use Rattle.script_run.specs.Contents.{pages_in, page_told, no_lane, rows_in}
+use Rattle.script_run.specs.Contents.{pages_in, rows_in}
 use Rattle.script_run.specs.Engine.{LanesSeen, FitRows, WritesLane, WritesPage}
 use Rattle.script_run.proofs.RowLanes.{place_there, page_written, still_fits}
 use Rattle.script_run.proofs.lanes.Lanes.write_page.Goals as goal
@@ -41,10 +40,10 @@ invariant_of-self c =
     let now : ListSeen MemLane = c.from_vec.result in
     let once : set (set i.stripes.items s c.replace.new.dest) s now ≡ set i.stripes.items s now = set-set i.stripes.items s c.replace.new.dest now in
     let writes : WritesLane r (p * c.from-2.result / length c.args.page.now) c.args.page.now (map lane_seen stripe.items) (map lane_seen now.items) =
-      subst (λ (ls : List MemLane). WritesLane r (p * c.from-2.result / length c.args.page.now) c.args.page.now (map lane_seen stripe.items) (map lane_seen ls)) (sym c.from_vec.ensures.items) (rw (c.from.ensures, items) at c.write_lane.ensures) in
+    subst (λ (ls : List MemLane). WritesLane r (p * c.from-2.result / length c.args.page.now) c.args.page.now (map lane_seen stripe.items) (map lane_seen ls)) (sym c.from_vec.ensures.items) (rw (c.from.ensures, items) at c.write_lane.ensures) in
     record {
       fit = subst (λ (xs : List (ListSeen MemLane)). FitRows i.layout.page_size (rows_in xs)) (sym once) (still_fits i.layout.page_size i.layout.stripes i.stripes.items stripe s r p c.self.invariant.fit c.self.invariant.stripes c.stripe_of-stripe.ensures.stripe c.index_mut.ensures.value region inside now c.args.page.now (length c.args.page.now) c.from-2.result e f e writes);
-      stripes = ap length once ∙ length-set i.stripes.items s now ∙ c.self.invariant.stripes
+      stripes = ap length once ∙ length-set i.stripes.items s now ∙ c.self.invariant.stripes;
     }
 
 pub returns-clause-written : goal.returns-clause-written
@@ -63,9 +62,9 @@ returns-clause-written c =
     let now : ListSeen MemLane = c.from_vec.result in
     let once : set (set i.stripes.items s c.replace.new.dest) s now ≡ set i.stripes.items s now = set-set i.stripes.items s c.replace.new.dest now in
     let writes : WritesLane r (p * c.from-2.result / length c.args.page.now) c.args.page.now (map lane_seen stripe.items) (map lane_seen now.items) =
-      subst (λ (ls : List MemLane). WritesLane r (p * c.from-2.result / length c.args.page.now) c.args.page.now (map lane_seen stripe.items) (map lane_seen ls)) (sym c.from_vec.ensures.items) (rw (c.from.ensures, items) at c.write_lane.ensures) in
+    subst (λ (ls : List MemLane). WritesLane r (p * c.from-2.result / length c.args.page.now) c.args.page.now (map lane_seen stripe.items) (map lane_seen ls)) (sym c.from_vec.ensures.items) (rw (c.from.ensures, items) at c.write_lane.ensures) in
     subst (λ (xs : List (ListSeen MemLane)). WritesPage r p c.args.page.now c.args.self.now.rows (rows_in xs)) (sym once)
-      (subst (λ (xs : List (List LaneSeen)). WritesPage r p c.args.page.now xs (rows_in (set i.stripes.items s now))) rows (page_written i.layout.page_size i.layout.stripes i.stripes.items stripe s r p c.self.invariant.fit c.self.invariant.stripes c.stripe_of-stripe.ensures.stripe c.index_mut.ensures.value region inside now c.args.page.now (length c.args.page.now) c.from-2.result e f e writes))
+    (subst (λ (xs : List (List LaneSeen)). WritesPage r p c.args.page.now xs (rows_in (set i.stripes.items s now))) rows (page_written i.layout.page_size i.layout.stripes i.stripes.items stripe s r p c.self.invariant.fit c.self.invariant.stripes c.stripe_of-stripe.ensures.stripe c.index_mut.ensures.value region inside now c.args.page.now (length c.args.page.now) c.from-2.result e f e writes))
 
 pub returns-clause-fit : goal.returns-clause-fit
 returns-clause-fit c =
@@ -83,5 +82,5 @@ returns-clause-fit c =
     let now : ListSeen MemLane = c.from_vec.result in
     let once : set (set i.stripes.items s c.replace.new.dest) s now ≡ set i.stripes.items s now = set-set i.stripes.items s c.replace.new.dest now in
     let writes : WritesLane r (p * c.from-2.result / length c.args.page.now) c.args.page.now (map lane_seen stripe.items) (map lane_seen now.items) =
-      subst (λ (ls : List MemLane). WritesLane r (p * c.from-2.result / length c.args.page.now) c.args.page.now (map lane_seen stripe.items) (map lane_seen ls)) (sym c.from_vec.ensures.items) (rw (c.from.ensures, items) at c.write_lane.ensures) in
+    subst (λ (ls : List MemLane). WritesLane r (p * c.from-2.result / length c.args.page.now) c.args.page.now (map lane_seen stripe.items) (map lane_seen ls)) (sym c.from_vec.ensures.items) (rw (c.from.ensures, items) at c.write_lane.ensures) in
     subst (λ (xs : List (ListSeen MemLane)). FitRows i.layout.page_size (rows_in xs)) (sym once) (still_fits i.layout.page_size i.layout.stripes i.stripes.items stripe s r p c.self.invariant.fit c.self.invariant.stripes c.stripe_of-stripe.ensures.stripe c.index_mut.ensures.value region inside now c.args.page.now (length c.args.page.now) c.from-2.result e f e writes)

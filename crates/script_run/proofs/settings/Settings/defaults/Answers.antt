@@ -1,8 +1,7 @@
-use Rattle.std.proofs.Common.{◌≡◌, ℕ, ◌+◌, Bool, true, not, ◌&&◌, cond, eqb, Option, Some, None, refl, subst, ◌∙◌, lit<}
+use Rattle.std.proofs.Common.{◌≡◌, ℕ, ◌+◌, true, not, ◌&&◌, cond, eqb, Option, Some, None, refl, subst, ◌∙◌, lit<}
 use Rattle.std.specs.Int.RustNames.{count_ones}
 use Rattle.std.proofs.lemmas.Nat.{ones_cat}
 use Rattle.std.proofs.lemmas.Option.{none-some}
-use Rattle.page_base.specs.Layouts.{layout_fault}
 use Rattle.page_base.specs.declared.faults.LayoutFault.{LayoutFault}
 use Rattle.page_base.specs.declared.faults.LayoutFault.TheVariants.{BadPageSize}
 use Rattle.script_run.proofs.settings.Settings.defaults.Goals as goal

@@ -1,4 +1,4 @@
-use Rattle.std.proofs.Common.{◌≡◌, ◌+◌, ◌-◌, ◌≤◌, ◌++◌, ℕ, List, length, take, drop, subst, ap, ◌∙◌, arith, rules, length-drop, length-take}
+use Rattle.std.proofs.Common.{◌+◌, ◌-◌, ◌≤◌, ◌++◌, ℕ, List, length, take, drop, subst, ap, ◌∙◌, arith, length-drop, length-take}
 use Rattle.std.proofs.lemmas.List.{take_rest}
 use Rattle.std.specs.Io.KnownBytes.{Appends}
 use Rattle.script_run.proofs.Streaming.{appends_more, take_take_drop}
@@ -15,5 +15,5 @@ loop-at-preserved g c =
       within = within;
       faults = c.loop-at.invariant.faults;
       taken = subst P (ap (λ (xs : List ℕ). take at bytes ++ take n xs) (take_rest bytes at) ∙ take_take_drop at n bytes within)
-        (appends_more _ _ _ _ _ c.loop-at.invariant.taken c.write_some-taken.ensures.bytes)
+          (appends_more _ _ _ _ _ c.loop-at.invariant.taken c.write_some-taken.ensures.bytes);
     }

@@ -1,0 +1,130 @@
+//! The command on streams in memory: each status once, and what was written.
+use crate::status::Status;
+use crate::top::top_serial;
+use crate::words::{Call, WordsFault};
+use page_base::{Bytes, List, Texts};
+use script_run::{FailingWrite, MemSink, MemSource};
+use std::process::Abort;
+use std::test::Fail;
+use workload_text::TextKind;
+
+const RUN: &str = "map A memory 4096 rw\nscript s\nstore A 0 48656c6c6f\nload A 0 5\n";
+
+const REPLIES: &[u8] = b"script s\nok\nload 48656c6c6f\n";
+
+const UNBUILT: Status = Status::Refused {
+    line: 0,
+    kind: TextKind::Unbuilt,
+};
+
+fn texts(rt: &HostRuntime, words: &[&str]) -> Result<Texts, Fail> {
+    let mut texts = Texts::new(rt.alloc());
+    for word in words {
+        if texts.reserve(1).is_err() {
+            panic!(rt; "no memory");
+        }
+        texts.put(String::from_str(rt.alloc(), *word)?);
+    }
+    Ok(texts)
+}
+
+/// What the command answers and what it wrote, where the stated read and write fail.
+fn answer(
+    rt: &HostRuntime,
+    words: &[&str],
+    input: &str,
+    reads: &[u64],
+    writes: &[FailingWrite],
+) -> Result<(Status, Vec<u8>), Fail> {
+    let bytes = Bytes::from_vec(input.as_bytes().to_vec(rt.alloc())?);
+    let mut source = MemSource::new(bytes, List::from_vec(reads.to_vec(rt.alloc())?));
+    let mut room = Bytes::new(rt.alloc());
+    if room.reserve(1024).is_err() {
+        panic!(rt; "no memory");
+    }
+    let mut sink = MemSink::new(room, List::from_vec(writes.to_vec(rt.alloc())?));
+    let call = Call {
+        words: texts(rt, words)?,
+        vars: Texts::new(rt.alloc()),
+    };
+    let (status, _) = top_serial(rt.alloc(), call, &mut source, (), &mut sink);
+    Ok((status, sink.into_bytes().into_vec()))
+}
+
+#[test]
+fn an_accepted_input_is_answered_whole(rt: HostRuntime) -> Result<(), Fail> {
+    for (input, replies) in [("", b"".as_slice()), (RUN, REPLIES)] {
+        let (status, written) = answer(&rt, &["serial"], input, &[], &[])?;
+        assert_eq!(rt; status, Status::Done, "{input}");
+        assert_eq!(rt; written.as_slice(), replies, "{input}");
+    }
+    Ok(())
+}
+
+#[test]
+fn other_words_and_inputs_are_refused(rt: HostRuntime) -> Result<(), Fail> {
+    for (words, fault) in [
+        ([].as_slice(), WordsFault::NoCommand),
+        (["run"].as_slice(), WordsFault::UnknownCommand),
+        (["serial", "x"].as_slice(), WordsFault::Words),
+    ] {
+        let (status, written) = answer(&rt, words, RUN, &[], &[])?;
+        assert_eq!(rt; status, Status::Words(fault));
+        assert!(rt; written.is_empty());
+    }
+    for input in [
+        "map A memory 64 rw\n",
+        "load A 0 1\n",
+        "map A memory 4096 ro\nscript s\nstore A 0 01\n",
+        "map A memory 4096 rw\nscript s\nload A 4096 1\n",
+    ] {
+        let (status, written) = answer(&rt, &["serial"], input, &[], &[])?;
+        assert_eq!(rt; status, UNBUILT, "{input}");
+        assert!(rt; written.is_empty());
+    }
+    Ok(())
+}
+
+#[test]
+fn failing_streams_are_told(rt: HostRuntime) -> Result<(), Fail> {
+    let (status, written) = answer(&rt, &["serial"], RUN, &[1], &[])?;
+    assert_eq!(rt; status, Status::SourceFault { faults: 1 });
+    assert!(rt; written.is_empty());
+    let fails = FailingWrite {
+        number: 1,
+        takes: 3,
+    };
+    let (status, written) = answer(&rt, &["serial"], RUN, &[], &[fails])?;
+    assert_eq!(rt; status, Status::SinkFault { faults: 1 });
+    assert_eq!(rt; written.as_slice(), b"scr".as_slice());
+    Ok(())
+}
+
+#[test]
+fn statuses_have_their_texts(rt: HostRuntime) {
+    for (status, code, wanted) in [
+        (Status::Done, 0, ""),
+        (UNBUILT, 2, "umapsh: line 0: unbuilt\n"),
+        (
+            Status::Words(WordsFault::NoCommand),
+            3,
+            "umapsh: words refused\n",
+        ),
+        (Status::Memory, 5, "umapsh: out of memory\n"),
+        (
+            Status::SinkFault { faults: 1 },
+            6,
+            "umapsh: output failed\n",
+        ),
+        (
+            Status::SourceFault { faults: 1 },
+            7,
+            "umapsh: input failed\n",
+        ),
+    ] {
+        let mut out = [0u8; 128];
+        let len = status.text(&mut out);
+        assert_eq!(rt; status.code(), code);
+        assert_eq!(rt; &out[..len], wanted.as_bytes());
+    }
+}
