@@ -2,7 +2,7 @@
 //!
 //! What must stay true when this file is changed: a page has one frame at the most, `order` has each resident page once, and
 //! `free` has each free frame once. The rooms of `order` and `free` are for as many as there are frames, so neither grows.
-ghost use Rattle.std.specs.Prelude.{◌≡◌, ◌<◌, ◌≤◌, ◌+◌, Bool, [], length, find, replicate, count_by, false, IsTrue, IfSome, IfNone, IfOk, All, Contains};
+ghost use Rattle.std.specs.Prelude.{◌≡◌, ◌<◌, ◌≤◌, ◌+◌, Bool, [], length, find, replicate, count_by, false, IsTrue, IfSome, IfNone, IfOk, All, Contains, slice_get};
 ghost use Rattle.std.specs.Borrow.{Lends, sem, Array, u8 as byte};
 ghost use Rattle.page_base.specs.declared.keys.Key.{Key};
 ghost use Rattle.page_buffer.specs.Frames.{Free, Reserved, is_reserved, is_resident, resident_key, bytes_of};
@@ -160,6 +160,13 @@ impl PageBuffer {
         }
     }
 
+    /// The resident page at a place in the order of filling, none past the last.
+    pub fn nth(&self, place: u32) -> Option<Key>
+        ensures exact { result ≡ slice_get self.now.residents place }
+    {
+        self.order.get(place as usize).copied()
+    }
+
     /// The number of resident pages.
     pub fn resident(&self) -> u32
         ensures exact { result ≡ length self.now.residents }
@@ -232,6 +239,8 @@ mod tests {
             Some(Key { region: 9, page: 9 })
         );
         assert_eq!(rt; buffer.oldest_where(|key| key.region == 0), Some(PAGE));
+        assert_eq!(rt; buffer.nth(1), Some(PAGE));
+        assert_eq!(rt; buffer.nth(2), None);
         Ok(())
     }
 

@@ -4,7 +4,6 @@ use crate::top::top_serial;
 use crate::words::{Call, WordsFault};
 use page_base::{Bytes, List, Texts};
 use script_run::{FailingWrite, MemSink, MemSource};
-use std::process::Abort;
 use std::test::Fail;
 use workload_text::TextKind;
 
@@ -20,9 +19,7 @@ const UNBUILT: Status = Status::Refused {
 fn texts(rt: &HostRuntime, words: &[&str]) -> Result<Texts, Fail> {
     let mut texts = Texts::new(rt.alloc());
     for word in words {
-        if texts.reserve(1).is_err() {
-            panic!(rt; "no memory");
-        }
+        texts.reserve(1)?;
         texts.put(String::from_str(rt.alloc(), *word)?);
     }
     Ok(texts)
@@ -39,9 +36,7 @@ fn answer(
     let bytes = Bytes::from_vec(input.as_bytes().to_vec(rt.alloc())?);
     let mut source = MemSource::new(bytes, List::from_vec(reads.to_vec(rt.alloc())?));
     let mut room = Bytes::new(rt.alloc());
-    if room.reserve(1024).is_err() {
-        panic!(rt; "no memory");
-    }
+    room.reserve(1024)?;
     let mut sink = MemSink::new(room, List::from_vec(writes.to_vec(rt.alloc())?));
     let call = Call {
         words: texts(rt, words)?,

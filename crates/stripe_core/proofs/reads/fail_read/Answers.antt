@@ -1,0 +1,25 @@
+use Rattle.std.proofs.Common.{◌≡◌, ◌∙◌, ap, refl, slice_set}
+use Rattle.std.specs.Vec.{with_item}
+use Rattle.std.proofs.lemmas.Option.{get_or_from_slice_get}
+use Rattle.stripe_core.specs.declared.region.Region.{Region}
+use Rattle.stripe_core.proofs.reads.fail_read.Goals as goal
+
+pub returns-clause-regions : goal.returns-clause-regions
+returns-clause-regions g c = λ old e.
+    let x = c.index_mut-region.result.now in
+    let is : x ≡ old = c.index_mut-region.ensures.value ∙ get_or_from_slice_get c.args.regions.now.items c.args.key.region old x e in (
+      record x { lane = c.replace.new.dest; read_faults = with_item x.read_faults c.args.key.page c.args.faults },
+      record {
+        place = c.replace.ensures.after;
+        closing = ap (λ (y : Region g.row.S.Denot). y.closing) is;
+        unmapped = ap (λ (y : Region g.row.S.Denot). y.unmapped) is;
+        read_faults = ap (λ (y : Region g.row.S.Denot). slice_set y.read_faults.items c.args.key.page c.args.faults) is;
+      },
+      refl,
+    )
+
+pub returns-clause-lane : goal.returns-clause-lane
+returns-clause-lane g c = λ old e.
+    let x = c.index_mut-region.result.now in
+    let is : x ≡ old = c.index_mut-region.ensures.value ∙ get_or_from_slice_get c.args.regions.now.items c.args.key.region old x e in
+    c.replace.ensures.value ∙ ap (λ (y : Region g.row.S.Denot). y.lane) is

@@ -1,0 +1,27 @@
+-- The regions of a stripe that has just been made.
+use Rattle.std.specs.Prelude.{ℕ, false, List, [], ◌∷◌, ◌≡◌, replicate, slice_set}
+use Rattle.std.proofs.Common.{Vec}
+use Rattle.std.specs.declared.alloc.Global.{Global}
+use Rattle.page_base.specs.declared.keys.RegionShape.{RegionShape}
+use Rattle.stripe_core.specs.declared.region.Lane.TheVariants as lane
+use Rattle.stripe_core.specs.declared.region.Region.{Region}
+
+-- the read faults of a region none of whose reads failed
+abbrev pub no_faults : RegionShape → List ℕ
+no_faults shape = replicate shape.pages 0
+
+abbrev pub region_made : {S : Type 0} → S → Vec ℕ Global → Region S
+region_made s faults = record { lane = lane.Home s; closing = false; unmapped = false; read_faults = faults }
+
+-- one region for each lane, with the read faults that go with it
+abbrev pub regions_made : {S : Type 0} → List S → List (Vec ℕ Global) → List (Region S)
+regions_made [] faults = []
+regions_made (s ∷ lanes) [] = []
+regions_made (s ∷ lanes) (f ∷ faults) = region_made s f ∷ regions_made lanes faults
+
+-- the region with its lane home, and this number of a failed read of the page
+pub record IsFailed {S : Type 0} (g : Region S) (s : S) (page faults : ℕ) (new : Region S) : Type 0 where
+  pub place : new.lane ≡ lane.Home s
+  pub closing : new.closing ≡ g.closing
+  pub unmapped : new.unmapped ≡ g.unmapped
+  pub read_faults : new.read_faults.items ≡ slice_set g.read_faults.items page faults

@@ -1,0 +1,167 @@
+//! Readers that serve eviction, flushing and unmapping. Each walks the resident pages once at the most, in order of filling,
+//! and stops at the first that passes; `quiet` walks the faults that wait as well.
+ghost use Rattle.std.specs.Prelude.{◌≡◌, ◌<◌, ◌==◌, ◌&&◌, ◌||◌, not, true, find, option_map, slice_get, IfSome};
+ghost use Rattle.page_model.specs.Core as core;
+ghost use Rattle.page_model.specs.Setups.{quota, regions};
+ghost use Rattle.fault_queue.specs.Queues.{raise_of};
+ghost use Rattle.stripe_core.specs.FrameStates.{keys_of, leaves, pick_at, frame_state, state_of};
+
+use crate::answers::FrameState;
+use crate::stripe::Stripe;
+use page_base::{Key, Why};
+use page_model::Pick;
+use store_trait::Store;
+
+impl<S: Store> Stripe<S> {
+    /// Whether pages have to leave: the stripe evicts, or has no free frame.
+    pub fn pressure(&self) -> bool
+        ensures exact { result ≡ core.has_pressure self.now }
+    {
+        self.evicting || self.free_frames() == 0
+    }
+
+    /// The oldest resident page that may leave: it isn't being written, and is clean or has its lane home.
+    pub fn pick(&self) -> Option<Pick>
+        ensures exact { result ≡ core.pick self.now }
+    {
+        match self.first_leaving() {
+            Some(key) => Some(self.pick_of(key)),
+            None => None,
+        }
+    }
+
+    /// The oldest resident page of a region.
+    pub fn oldest_of(&self, region: u16) -> Option<Pick>
+        ensures exact { result ≡ core.oldest_of self.now region }
+    {
+        match self.first_of(region) {
+            Some(key) => Some(self.pick_of(key)),
+            None => None,
+        }
+    }
+
+    /// Whether no page of the region is resident, pending, being read or being written.
+    pub fn quiet(&self, region: u16) -> bool
+        requires region { region < regions self.now.setup }
+        ensures exact { result ≡ core.is_quiet self.now region }
+    {
+        let resident = self.first_of(region).is_some();
+        let waits = self.first_fault_of(region).is_some();
+        nothing_left(resident, waits, self.is_home(region))
+    }
+
+    /// What the `i`-th frame holds. Frames go by the order in which their pages were filled: past the last page they are empty.
+    pub fn frame(&self, i: u32) -> FrameState
+        requires within { i < quota self.now.setup }
+        ensures exact { result ≡ frame_state self.now i }
+    {
+        match self.resident_at(i) {
+            Some(page) => show(page, self.has_lane(page.key.region)),
+            None => FrameState::Empty,
+        }
+    }
+
+    /// The page at a place in the order of filling.
+    fn resident_at(&self, place: u32) -> Option<Pick>
+        ensures exact { result ≡ option_map core.pick_of (slice_get self.now.pages place) }
+    {
+        match self.buffer.nth(place) {
+            Some(key) => Some(self.pick_of(key)),
+            None => None,
+        }
+    }
+
+    fn pick_of(&self, key: Key) -> Pick
+        requires present { core.is_present self.now key ≡ true }
+        ensures exact { result ≡ pick_at self.now key }
+    {
+        let dirty = self.table.bits(key).dirty;
+        Pick { key, dirty }
+    }
+
+    fn is_writing(&self, key: Key) -> bool
+        ensures exact { result ≡ core.is_writing self.now key }
+    {
+        match self.regions.get(key.region as usize) {
+            Some(region) => region.lane.writes(key),
+            None => false,
+        }
+    }
+
+    fn has_lane(&self, region: u16) -> bool
+        ensures exact { result ≡ core.is_home self.now region }
+    {
+        match self.regions.get(region as usize) {
+            Some(region) => region.lane.is_home(),
+            None => false,
+        }
+    }
+
+    fn may_leave(&self, key: Key) -> bool
+        requires present { core.is_present self.now key ≡ true }
+        ensures exact { result ≡ leaves self.now key }
+    {
+        let pick = self.pick_of(key);
+        is_free_to_go(self.is_writing(key), pick.dirty, self.has_lane(key.region))
+    }
+
+    /// The key of the pick.
+    fn first_leaving(&self) -> Option<Key>
+        ensures picks { option_map (pick_at self.now) result ≡ core.pick self.now }
+        ensures present { IfSome result (λ key. core.is_present self.now key ≡ true) }
+    {
+        self.buffer.oldest_where(
+            |key: Key| -> bool
+                requires { core.is_present self.now key ≡ true }
+                ensures { result ≡ leaves self.entry.now key }
+            { self.may_leave(key) },
+        )
+    }
+
+    /// The key of the oldest resident page of a region.
+    fn first_of(&self, region: u16) -> Option<Key>
+        ensures picks { option_map (pick_at self.now) result ≡ core.oldest_of self.now region }
+        ensures present { IfSome result (λ key. core.is_present self.now key ≡ true) }
+        ensures exact { result ≡ find (λ k. k.region == region) (keys_of self.now) }
+    {
+        self.buffer.oldest_where(
+            |key: Key| -> bool
+                ensures { result ≡ (key.region == region) }
+            { key.region == region },
+        )
+    }
+
+    fn first_fault_of(&self, region: u16) -> Option<(Key, Why)>
+        ensures exact { option_map raise_of result ≡ find (λ p. p.key.region == region) self.now.queue }
+    {
+        self.queue.first_where(
+            |key: Key, _why: Why| -> bool
+                ensures { result ≡ (key.region == region) }
+            { key.region == region },
+        )
+    }
+}
+
+fn show(page: Pick, home: bool) -> FrameState
+    ensures { result ≡ state_of page home }
+{
+    if !page.dirty {
+        FrameState::Clean(page.key)
+    } else if home {
+        FrameState::Dirty(page.key)
+    } else {
+        FrameState::Away(page.key)
+    }
+}
+
+fn is_free_to_go(writing: bool, dirty: bool, home: bool) -> bool
+    ensures { result ≡ (not writing && (not dirty || home)) }
+{
+    !writing && (!dirty || home)
+}
+
+fn nothing_left(resident: bool, waits: bool, home: bool) -> bool
+    ensures { result ≡ (not resident && not waits && home) }
+{
+    !resident && !waits && home
+}

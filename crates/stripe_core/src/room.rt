@@ -1,0 +1,89 @@
+//! The room of a stripe: all memory that it ever takes.
+ghost use Rattle.std.specs.Prelude.{◌≡◌, ◌<◌, ◌≤◌, [], ℕ, length, map, replicate, vec_capacity, IfOk, OnOk, true};
+ghost use Rattle.page_base.specs.declared.keys.RegionShape.{RegionShape};
+ghost use Rattle.page_buffer.specs.Frames.{Free};
+ghost use Rattle.page_model.specs.Setups.{quota};
+ghost use Rattle.soft_mmu.specs.Entries.{no_pages};
+ghost use Rattle.stripe_core.specs.Configs.{setup_of, CanMake};
+ghost use Rattle.stripe_core.specs.Made.{regions_made, no_faults};
+ghost use Rattle.page_base.specs.Lanes.{LaneSeen};
+
+use crate::config::StripeConfig;
+use crate::region::{Lane, Region};
+use fault_queue::FaultQueue;
+use page_base::{List, OutOfMemory, RegionShape};
+use page_buffer::PageBuffer;
+use soft_mmu::PageTable;
+use std::alloc::Global;
+
+/// The parts of a stripe that hold no lane.
+#[derive(Drop)]
+pub(crate) struct Parts {
+    pub(crate) table: PageTable,
+    pub(crate) buffer: PageBuffer,
+    pub(crate) queue: FaultQueue,
+    pub(crate) faults: Vec<Vec<u64>>,
+}
+
+impl Parts {
+    pub(crate) fn new(alloc: Global, config: &StripeConfig) -> Result<Parts, OutOfMemory>
+        requires can { (lanes : _) × CanMake config.now lanes }
+        ensures table { IfOk result (λ p. p.table ≡ no_pages config.now.shapes.items) }
+        ensures buffer { IfOk result (λ p. p.buffer ≡ record { page_size = config.now.layout.page_size; frames = replicate (quota (setup_of config.now [])) Free; residents = [] }) }
+        ensures raises { IfOk result (λ p. p.queue.raises ≡ []) }
+        ensures capacity { IfOk result (λ p. p.queue.capacity ≡ config.now.faults) }
+        ensures faults { IfOk result (λ p. map (λ v. v.items) p.faults.items ≡ map no_faults config.now.shapes.items) }
+    {
+        let quota = config.layout.quota(config.number);
+        let table = PageTable::new(alloc, &config.shapes)?;
+        let buffer = PageBuffer::new(alloc, quota, config.layout.page_size())?;
+        let queue = FaultQueue::new(alloc, config.faults)?;
+        let faults = faults_of(alloc, &config.shapes)?;
+        Ok(Parts {
+            table,
+            buffer,
+            queue,
+            faults,
+        })
+    }
+}
+
+/// For each region a zero for each of its pages.
+fn faults_of(alloc: Global, shapes: &List<RegionShape>) -> Result<Vec<Vec<u64>>, OutOfMemory>
+    ensures { IfOk result (λ v. map (λ x. x.items) v.items ≡ map no_faults shapes.now.items) }
+{
+    let mut faults = Vec::new(alloc);
+    for shape in shapes.as_slice() {
+        let pages = vec![in alloc; 0u64; shape.pages as usize].map_err(|_| OutOfMemory)?;
+        faults.push(pages).map_err(|_| OutOfMemory)?;
+    }
+    Ok(faults)
+}
+
+/// The regions of these lanes, all home, and of these read faults, with the vector that the lanes came in. The regions go
+/// into `room`, and no memory is taken.
+pub(crate) fn regions_of<S>(
+    room: Vec<Region<S>>,
+    mut lanes: Vec<S>,
+    mut faults: Vec<Vec<u64>>,
+) -> (Vec<Region<S>>, Vec<S>)
+    requires empty { room.items ≡ [] }
+    requires fits { length lanes.items ≤ vec_capacity room }
+    requires one_each { length faults.items ≡ length lanes.items }
+    ensures made { result.0.items ≡ regions_made lanes.items faults.items }
+    ensures emptied { result.1.items ≡ [] }
+    ensures home { length lanes.items ≤ vec_capacity result.1 }
+{
+    let mut regions = room;
+    while let Some(lane) = lanes.pop() {
+        let read_faults = faults.pop().unwrap();
+        regions.push_reserved(Region {
+            lane: Lane::Home(lane),
+            closing: false,
+            unmapped: false,
+            read_faults,
+        });
+    }
+    regions.reverse();
+    (regions, lanes)
+}
