@@ -34,13 +34,6 @@ impl<S: Store> Stripe<S> {
         self.regions[key.region as usize].lane.reads(key)
     }
 
-    pub(crate) fn is_home(&self, region: u16) -> bool
-        requires region { region < regions self.now.setup }
-        ensures exact { result ≡ core.is_home self.now region }
-    {
-        self.regions[region as usize].lane.is_home()
-    }
-
     pub(crate) fn is_guarded(&self, key: Key) -> bool
         requires page { has_page self.now.setup key ≡ true }
         ensures exact { result ≡ core.is_guarded self.now key }

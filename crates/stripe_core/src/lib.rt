@@ -11,9 +11,10 @@ mod accesses;
 mod answers;
 mod closings;
 mod config;
+mod eviction_readers;
 mod evictions;
 mod faults;
-mod late_readers;
+
 mod openings;
 mod readers;
 mod reads;

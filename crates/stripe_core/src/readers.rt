@@ -33,6 +33,23 @@ impl<S: Store> Stripe<S> {
         self.table.bits(key).present
     }
 
+    /// Whether the page is resident and holds what its store may lack: it was opened to stores, and no write that began since
+    /// has ended well.
+    pub fn is_dirty(&self, key: Key) -> bool
+        requires page { has_page self.now.setup key ≡ true }
+        ensures exact { result ≡ core.is_dirty self.now key }
+    {
+        self.table.bits(key).dirty
+    }
+
+    /// Whether the region's lane is home: no page of it is being read or written.
+    pub fn is_home(&self, region: u16) -> bool
+        requires region { region < regions self.now.setup }
+        ensures exact { result ≡ core.is_home self.now region }
+    {
+        self.regions[region as usize].lane.is_home()
+    }
+
     /// The lane's count of faults at the page's last failed read, 0 where no read of it failed.
     pub fn read_fault(&self, key: Key) -> u64
         requires page { has_page self.now.setup key ≡ true }
