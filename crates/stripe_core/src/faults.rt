@@ -34,13 +34,6 @@ impl<S: Store> Stripe<S> {
         self.regions[key.region as usize].lane.reads(key)
     }
 
-    pub(crate) fn is_guarded(&self, key: Key) -> bool
-        requires page { has_page self.now.setup key ≡ true }
-        ensures exact { result ≡ core.is_guarded self.now key }
-    {
-        self.table.bits(key).protected
-    }
-
     pub(crate) fn free_frames(&self) -> u32
         ensures exact { result ≡ core.free_frames self.now }
     {

@@ -14,7 +14,6 @@ mod config;
 mod eviction_readers;
 mod evictions;
 mod faults;
-
 mod openings;
 mod readers;
 mod reads;

@@ -33,6 +33,14 @@ impl<S: Store> Stripe<S> {
         self.table.bits(key).present
     }
 
+    /// Whether the page is resident and write-protected.
+    pub fn is_guarded(&self, key: Key) -> bool
+        requires page { has_page self.now.setup key ≡ true }
+        ensures exact { result ≡ core.is_guarded self.now key }
+    {
+        self.table.bits(key).protected
+    }
+
     /// Whether the page is resident and holds what its store may lack: it was opened to stores, and no write that began since
     /// has ended well.
     pub fn is_dirty(&self, key: Key) -> bool
