@@ -1,0 +1,4 @@
+pub mod Going
+pub mod OneRegion
+pub mod Places
+pub mod Kept

@@ -1,0 +1,6 @@
+use Rattle.std.proofs.Common.{◌≡◌, length}
+use Rattle.core_bench.specs.Hands.{GoesOn, IsOneRegion}
+use Rattle.core_bench.proofs.sweeps.save_rounds.Given as goal
+
+abbrev pub invariant-loop : goal.invariant-loop
+invariant-loop g l = GoesOn l.initial.stripe l.stripe × IsOneRegion l.stripe.setup l.pages × (l.stripe.setup ≡ l.initial.stripe.setup)

@@ -1,0 +1,139 @@
+//! Calls of a stripe, each of which leaves it standing for a history.
+ghost use Rattle.std.specs.Prelude.{◌≡◌, ◌≤◌, ◌+◌, ◌^◌, ℕ, true, length};
+ghost use Rattle.page_base.specs.declared.keys.Key.{Key};
+ghost use Rattle.page_model.specs.Core.{next};
+ghost use Rattle.page_model.specs.Events.{CanStartWrite};
+ghost use Rattle.page_model.specs.Setups.{has_page, is_writable};
+ghost use Rattle.page_model.specs.declared.seen.Next.TheVariants as serve;
+ghost use Rattle.core_bench.specs.Hands.{GoesOn, Stands};
+
+use crate::asked::may_raise;
+use page_base::{Key, Why};
+use page_model::events::service_knows;
+use page_model::{Cause, Next};
+use store_trait::Store;
+use stripe_core::{Look, Raise, Stripe};
+
+/// The byte of a page that is stored to while a write of the page is out.
+pub const PLACE: u32 = 5;
+
+/// Lets a page wait, where it may.
+pub fn raise_at<S: Store>(stripe: &mut Stripe<S>, key: Key, why: Why) -> Option<Raise>
+    requires few { stripe.old.events + 1 ≤ 2 ^ 62 }
+    requires page { has_page stripe.old.setup key ≡ true }
+    requires writable { is_writable stripe.old.setup key.region ≡ true }
+    ensures on { GoesOn stripe.old stripe.new }
+    ensures events { stripe.new.events ≤ stripe.old.events + 1 }
+{
+    if !may_raise(stripe, key, why) {
+        return None;
+    }
+    Some(stripe.raise(key, why))
+}
+
+/// Reads one of the first 64 bytes of a page.
+pub fn load_at<S: Store>(stripe: &mut Stripe<S>, key: Key, place: u32) -> Option<(Look, u8)>
+    requires few { stripe.old.events + 1 ≤ 2 ^ 62 }
+    requires page { has_page stripe.old.setup key ≡ true }
+    requires large { 64 ≤ stripe.old.setup.page_size }
+    ensures on { GoesOn stripe.old stripe.new }
+{
+    if place >= 64 {
+        return None;
+    }
+    let mut bytes = [0u8];
+    let look = stripe.load(key, place, &mut bytes);
+    Some((look, bytes[0]))
+}
+
+/// Writes one of the first 64 bytes of a page.
+pub fn save_at<S: Store>(stripe: &mut Stripe<S>, key: Key, place: u32, byte: u8) -> Option<Look>
+    requires few { stripe.old.events + 1 ≤ 2 ^ 62 }
+    requires page { has_page stripe.old.setup key ≡ true }
+    requires writable { is_writable stripe.old.setup key.region ≡ true }
+    requires large { 64 ≤ stripe.old.setup.page_size }
+    ensures on { GoesOn stripe.old stripe.new }
+    ensures events { stripe.new.events ≤ stripe.old.events + 1 }
+{
+    if place >= 64 {
+        return None;
+    }
+    Some(stripe.save(key, place, &[byte]))
+}
+
+/// Opens the page that is next, where one is.
+pub fn open_next<S: Store>(stripe: &mut Stripe<S>)
+    requires few { stripe.old.events + 1 ≤ 2 ^ 62 }
+    requires stands { Stands stripe.old }
+    ensures on { GoesOn stripe.old stripe.new }
+    ensures events { stripe.new.events ≤ stripe.old.events + 1 }
+{
+    if let Next::Open(_) = stripe.next() {
+        let _ = stripe.open_page();
+    }
+}
+
+/// Reads in the page that is next.
+pub fn read_in<S: Store>(stripe: &mut Stripe<S>, scratch: &mut [u8])
+    requires few { stripe.old.events + 2 ≤ 2 ^ 62 }
+    requires stands { Stands stripe.old }
+    requires size { length scratch.old ≡ stripe.old.setup.page_size }
+    requires small { stripe.old.setup.page_size ≤ 1048576 }
+    requires next { (k : Key) × (next stripe.old ≡ serve.Read k) }
+    ensures stands { Stands stripe.new }
+    ensures setup { stripe.new.setup ≡ stripe.old.setup }
+{
+    let mut trip = stripe.start_read();
+    let place = u64::from(trip.key().page) * scratch.len() as u64;
+    match trip.lane().read_from_store(scratch, place) {
+        Ok(()) => stripe.filled(trip, scratch),
+        Err(_) => stripe.read_failed(trip),
+    }
+}
+
+/// Stores to `PLACE` of a page that is protected, where a byte is given: it waits to be opened, is opened, and is stored to.
+fn reopen<S: Store>(stripe: &mut Stripe<S>, key: Key, byte: Option<u8>)
+    requires few { stripe.old.events + 3 ≤ 2 ^ 62 }
+    requires stands { Stands stripe.old }
+    requires page { has_page stripe.old.setup key ≡ true }
+    requires writable { is_writable stripe.old.setup key.region ≡ true }
+    requires large { 64 ≤ stripe.old.setup.page_size }
+    ensures on { GoesOn stripe.old stripe.new }
+    ensures events { stripe.new.events ≤ stripe.old.events + 3 }
+{
+    let Some(byte) = byte else {
+        return;
+    };
+    let _ = raise_at(stripe, key, Why::Protected);
+    open_next(stripe);
+    let _ = save_at(stripe, key, PLACE, byte);
+}
+
+/// Writes a page back. Where `between` is a byte, a store of it to `PLACE` comes while the write is out.
+pub fn write_out<S: Store>(
+    stripe: &mut Stripe<S>,
+    key: Key,
+    why: Cause,
+    scratch: &mut [u8],
+    between: Option<u8>,
+)
+    requires few { stripe.old.events + 8 ≤ 2 ^ 62 }
+    requires stands { Stands stripe.old }
+    requires page { has_page stripe.old.setup key ≡ true }
+    requires writable { is_writable stripe.old.setup key.region ≡ true }
+    requires large { 64 ≤ stripe.old.setup.page_size }
+    requires size { length scratch.old ≡ stripe.old.setup.page_size }
+    requires small { stripe.old.setup.page_size ≤ 1048576 }
+    requires can { CanStartWrite stripe.old key why }
+    ensures stands { Stands stripe.new }
+    ensures setup { stripe.new.setup ≡ stripe.old.setup }
+{
+    service_knows();
+    let mut trip = stripe.start_write(key, why, scratch);
+    reopen(stripe, key, between);
+    let place = u64::from(key.page) * scratch.len() as u64;
+    match trip.lane().write_to_store(scratch, place) {
+        Ok(()) => stripe.written(trip, scratch),
+        Err(_) => stripe.write_failed(trip),
+    }
+}
