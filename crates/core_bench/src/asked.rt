@@ -9,6 +9,7 @@ use page_model::Cause;
 use store_trait::Store;
 use stripe_core::Stripe;
 
+/// The fault fits the page, whose region isn't closing.
 pub fn may_raise<S: Store>(stripe: &Stripe<S>, key: Key, why: Why) -> bool
     requires page { has_page stripe.now.setup key ≡ true }
     requires writable { is_writable stripe.now.setup key.region ≡ true }
@@ -34,6 +35,7 @@ fn is_picked<S: Store>(stripe: &Stripe<S>, key: Key) -> bool
     }
 }
 
+/// A write of the page may start for this cause.
 pub fn may_write<S: Store>(stripe: &Stripe<S>, key: Key, why: Cause) -> bool
     requires page { has_page stripe.now.setup key ≡ true }
     ensures { result ≡ true → CanStartWrite stripe.now key why }
@@ -48,6 +50,7 @@ pub fn may_write<S: Store>(stripe: &Stripe<S>, key: Key, why: Cause) -> bool
     }
 }
 
+/// The page may leave for this cause.
 pub fn may_evict<S: Store>(stripe: &Stripe<S>, key: Key, why: Cause) -> bool
     requires page { has_page stripe.now.setup key ≡ true }
     ensures { result ≡ true → CanEvict stripe.now key why }

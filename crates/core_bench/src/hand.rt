@@ -19,7 +19,7 @@ use stripe_core::{FrameState, Look, NewStripe, Raise, Stripe, StripeConfig};
 
 const MOST_EVENTS: u64 = 1_000_000_000_000;
 
-/// What a page shows.
+/// The bits of a page, and the number of its last failed read, 0 where none failed.
 #[derive(Clone, Copy, Debug, PartialEq, Eq)]
 pub struct Shown {
     pub present: bool,
@@ -28,6 +28,7 @@ pub struct Shown {
     pub fault: u64,
 }
 
+/// A stripe of one region, with a scratch page for its reads and writes.
 pub struct Hand<S: Store> {
     stripe: Stripe<S>,
     scratch: Vec<u8>,
@@ -220,6 +221,7 @@ impl<S: Store> Hand<S> {
         true
     }
 
+    /// What a page shows.
     pub fn shown(&self, page: u32) -> Option<Shown> {
         let key = self.key(page)?;
         Some(Shown {
@@ -244,7 +246,7 @@ impl<S: Store> Hand<S> {
         self.stripe.quiet(0)
     }
 
-    /// Ends the stripe.
+    /// Ends the stripe. Its lane has to be home.
     pub fn into_lanes(self, rt: &impl Abort) -> List<S> {
         let Hand {
             stripe,

@@ -30,6 +30,7 @@ fn filled(alloc: Global, page_size: u32) -> Result<Hand<MemLane>> {
     Ok(hand)
 }
 
+/// Times loads, and then stores, of the hand's pages. Each has to hit.
 fn time_both<R: Clock>(
     rt: &R,
     hand: &mut Hand<MemLane>,

@@ -16,6 +16,7 @@ fn part_of(page: u32, room: u32) -> u32
     (page % 64 * 64).min(room)
 }
 
+/// One for a hit, else zero.
 fn load_part<S: Store>(stripe: &mut Stripe<S>, key: Key, place: u32, buf: &mut [u8]) -> u64
     requires page { has_page stripe.old.setup key ≡ true }
     requires some { 0 < length buf.old }
@@ -31,6 +32,7 @@ fn load_part<S: Store>(stripe: &mut Stripe<S>, key: Key, place: u32, buf: &mut [
     }
 }
 
+/// One for a hit, else zero.
 fn save_part<S: Store>(stripe: &mut Stripe<S>, key: Key, place: u32, bytes: &[u8]) -> u64
     requires page { has_page stripe.old.setup key ≡ true }
     requires writable { is_writable stripe.old.setup key.region ≡ true }
