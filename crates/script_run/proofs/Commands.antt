@@ -30,8 +30,8 @@ store_range r off bytes replies b m =
     let inside : off + length bytes ≤ length (bytes_at b r) = omega (arith, fit.inside, m.sized.sizes r fit.known) in
     record { region = region; inside = inside; near = omega (arith, fit.inside, m.sized.small r); short = fit.short }
 
-pub ran_load : (r off len : ℕ) (r0 r1 : Replies) (e0 e1 : EngineSeen) (bytes : List ℕ) → IsRange e0.regions r off len → bytes ≡ take len (drop off (bytes_at e0.regions r)) → e1 ≡ e0 → r1.text.items ≡ r0.text.items ++ load_reply bytes → r0.text.spare ≤ r1.text.spare + (2 * length bytes + 6) → r1.loaded ≡ r0.loaded + length bytes → r1.sum ≡ r0.sum + sum bytes → Ran (load_line r off len ∷ []) r0 r1 e0 e1
-ran_load r off len r0 r1 e0 e1 bytes range is same text spare count total =
+pub ran_load : (r off len : ℕ) (r0 r1 : Replies) (e0 e1 : EngineSeen) (bytes : List ℕ) → IsRange e0.regions r off len → bytes ≡ take len (drop off (bytes_at e0.regions r)) → e1.regions ≡ e0.regions → e1.page_size ≡ e0.page_size → e1.origins ≡ e0.origins → r1.text.items ≡ r0.text.items ++ load_reply bytes → r0.text.spare ≤ r1.text.spare + (2 * length bytes + 6) → r1.loaded ≡ r0.loaded + length bytes → r1.sum ≡ r0.sum + sum bytes → Ran (load_line r off len ∷ []) r0 r1 e0 e1
+ran_load r off len r0 r1 e0 e1 bytes range is same page_size origins text spare count total =
     let here : List ℕ = take len (drop off (bytes_at e0.regions r)) in
     let long : length bytes ≡ len = ap length is ∙ omega (arith, range.inside, length-take len (drop off (bytes_at e0.regions r)), length-drop off (bytes_at e0.regions r)) in
     record {
@@ -39,10 +39,10 @@ ran_load r off len r0 r1 e0 e1 bytes range is same text spare count total =
       spare = omega arith;
       loaded = omega arith;
       added = total ∙ ap (λ (t : List ℕ). r0.sum + sum t) (is ∙ sym (append-nil here));
-      regions = ap (λ (e : EngineSeen). e.regions) same;
-      lengths = ap (λ (e : EngineSeen). map length e.regions) same;
-      page_size = ap (λ (e : EngineSeen). e.page_size) same;
-      origins = ap (λ (e : EngineSeen). e.origins) same;
+      regions = same;
+      lengths = ap (map length) same;
+      page_size = page_size;
+      origins = origins;
     }
 
 pub ran_store : (r off : ℕ) (bytes : List ℕ) (r0 r1 : Replies) (e0 e1 : EngineSeen) → IsRange e0.regions r off (length bytes) → e1.regions ≡ set e0.regions r (spliced (bytes_at e0.regions r) off bytes) → e1.page_size ≡ e0.page_size → e1.origins ≡ e0.origins → r1.text.items ≡ r0.text.items ++ codes "ok\n" → r0.text.spare ≤ r1.text.spare + 3 → r1.loaded ≡ r0.loaded → r1.sum ≡ r0.sum → Ran (store_line r off bytes ∷ []) r0 r1 e0 e1

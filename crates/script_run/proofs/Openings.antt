@@ -105,11 +105,11 @@ regions_fit layout ls stripes fit all =
     let rows : List (List LaneSeen) = rows_in stripes in
     let pages : pages_in rows ≡ pages_of layout.page_size (regions_of ls) = pages_fit layout (regions_of ls) stripes fit in
     let fits : FitRows layout.page_size rows = fit_rows layout (regions_of ls) stripes fit in
-    let count : length (contents_of rows) ≡ length (regions_of ls) = regions_count layout.page_size rows fits ∙ ap length pages ∙ length-map (regions_of ls) (λ (g : Region). g.size / layout.page_size) in
+    let count : length (contents_of rows) ≡ length (regions_of ls) = regions_count layout.page_size (pages_in rows) (page_told rows) fits.whole ∙ ap length pages ∙ length-map (regions_of ls) (λ (g : Region). g.size / layout.page_size) in
     record {
       count = count;
       sizes = λ r below.
-          region_len layout.page_size rows fits r (omega (arith, count))
+          region_len layout.page_size (pages_in rows) (page_told rows) fits.whole r (omega (arith, count))
           ∙ ap (λ (ps : List ℕ). get_or ps r 0 * layout.page_size) pages
           ∙ sizes_whole layout.page_size (regions_of ls) fit.whole r below;
       small = sizes_small (regions_of ls) ls all;

@@ -1,5 +1,6 @@
 -- What a serial run sees of its lanes and of its engine.
 use Rattle.std.specs.Prelude.{◌≡◌, ℕ, ◌<◌, List, [], length, slice_index_or, slice_set}
+use Rattle.page_base.specs.declared.keys.Key.{Key}
 use Rattle.page_base.specs.Lanes.{Origin, LaneSeen, told_at}
 use Rattle.store_trait.specs.Lanes.{ChangesOnly, retold}
 use Rattle.script_run.specs.Contents.{page_told, pages_in, origins_of, no_lane}
@@ -10,11 +11,13 @@ pub record LanesSeen : Type 0 where
   pub page_size : ℕ
   pub rows : List (List LaneSeen)
 
--- the bytes of all regions, and which lanes they are kept in
+-- the bytes of all regions, which lanes they are kept in, and which pages are resident
 pub record EngineSeen : Type 0 where
   pub page_size : ℕ
   pub regions : List (List ℕ)
   pub origins : List (List Origin)
+  pub quotas : List ℕ  -- by stripe, the most pages that may be resident
+  pub residents : List (List Key)  -- by stripe, the resident pages in order of filling, the oldest first
 
 -- each stripe has one lane for each region, and each page is told whole
 pub record FitRows (page_size : ℕ) (rows : List (List LaneSeen)) : Type 0 where

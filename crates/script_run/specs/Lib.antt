@@ -5,3 +5,5 @@ pub mod Streams
 pub mod Rooms
 pub mod Engine
 pub mod Running
+pub mod Residents
+pub mod Frames

@@ -12,7 +12,9 @@ pub(crate) fn load(engine: &mut Engine, region: u16, off: u64, buf: &mut [u8])
     requires inside { off + length buf.old ≤ length (bytes_at engine.old.regions region) }
     requires near { off + length buf.old ≤ 2 ^ 32 }
     ensures bytes { buf.new ≡ take (length buf.old) (drop off (bytes_at engine.old.regions region)) }
-    ensures same { engine.new ≡ engine.old }
+    ensures page_size { engine.new.page_size ≡ engine.old.page_size }
+    ensures regions { engine.new.regions ≡ engine.old.regions }
+    ensures origins { engine.new.origins ≡ engine.old.origins }
 {
     let size = u64::from(engine.page_size());
     let mut done = 0usize;

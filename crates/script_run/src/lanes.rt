@@ -62,6 +62,7 @@ impl Model for Lanes {
 impl Lanes {
     ghost use Rattle.script_run.specs.Contents.{rows_seen};
     ghost use Rattle.script_run.specs.Engine.{FitRows, WritesPage};
+    ghost use Rattle.script_run.specs.Residents.{home_of};
 
     pub(crate) fn new(layout: Layout, lanes: LaneSet<MemLane>) -> Lanes
         requires fit { FitRows layout.page_size (rows_seen lanes) }
@@ -90,6 +91,14 @@ impl Lanes {
         ensures some { 0 < result }
     {
         self.layout.page_size()
+    }
+
+    /// The stripe of a page.
+    pub(crate) fn stripe_of(&self, key: Key) -> u32
+        ensures stripe { result ≡ home_of (length self.now.rows) key }
+        ensures below { result < length self.now.rows }
+    {
+        self.layout.stripe_of(key, 1)
     }
 
     // A `List` lends its items for reading alone, so a stripe's lanes are taken out and put back.

@@ -10,6 +10,7 @@ mod access;
 mod engine;
 mod lanes;
 mod memory;
+mod pages;
 mod replies;
 mod serial_run;
 mod settings;

@@ -1,15 +1,15 @@
 //! The lanes of a workload whose regions are kept in memory, all zeros at first.
-ghost use Rattle.std.specs.Prelude.{◌≡◌, ◌<◌, ◌≤◌, ◌*◌, ◌/◌, ◌%◌, ◌==◌, ◌∷◌, [], true, map, length, replicate, IfOk};
+ghost use Rattle.std.specs.Prelude.{◌≡◌, ◌<◌, ◌≤◌, ◌*◌, ◌/◌, ◌%◌, ◌==◌, ◌∷◌, [], true, map, length, replicate, All, IfOk};
 ghost use Rattle.std.specs.List.{list_all};
 ghost use Rattle.store_trait.specs.MemLanes.{lane_seen, AreLanesOf};
 ghost use Rattle.workload_text.specs.View.{lines_of};
 ghost use Rattle.workload_text.specs.Accepted.{IsRunnable, regions_of};
 ghost use Rattle.script_run.specs.Serial.{zeros_of};
 ghost use Rattle.script_run.specs.Contents.{rows_in, rows_seen, contents_of};
-ghost use Rattle.script_run.specs.Fits.{FitLanes, has_whole_pages};
+ghost use Rattle.script_run.specs.Fits.{FitLanes, has_whole_pages, pages_of};
 
 use crate::settings::Settings;
-use page_base::{Bytes, Layout, List, OutOfMemory};
+use page_base::{Bytes, Layout, List, OutOfMemory, RegionShape};
 use std::alloc::Global;
 use store_trait::{LaneSet, MemLane, MemStore};
 use workload_text::{MapLine, Workload};
@@ -93,4 +93,27 @@ pub fn pages_are_whole(workload: &Workload, page_size: u32) -> bool
     ensures { result ≡ has_whole_pages page_size (regions_of (lines_of workload.now)) }
 {
     are_whole(workload.maps.as_slice(), u64::from(page_size))
+}
+
+/// The shape of each region.
+pub(crate) fn shapes_of(
+    alloc: Global,
+    workload: &Workload,
+    page_size: u32,
+) -> Result<List<RegionShape>, OutOfMemory>
+    requires some { 0 < page_size }
+    requires small { All (λ m. m.length ≤ 16777216) workload.now.maps.items }
+    ensures { IfOk result (λ shapes. map (λ s. s.pages) shapes.items ≡ pages_of page_size (regions_of (lines_of workload.now))) }
+{
+    let maps = workload.maps.as_slice();
+    let mut shapes = List::new(alloc);
+    shapes.reserve(maps.len())?;
+    for map in maps {
+        shapes.put(RegionShape {
+            pages: (map.length / u64::from(page_size)) as u32,
+            group: 1,
+            writable: map.writable,
+        });
+    }
+    Ok(shapes)
 }

@@ -12,6 +12,7 @@ ghost use Rattle.script_run.specs.Running.{MayRun, Ran};
 
 use crate::access::{load, store};
 use crate::engine::Engine;
+use crate::memory::shapes_of;
 use crate::replies::{MOST_ACCESS, Replies};
 use crate::settings::Settings;
 use page_base::Bytes;
@@ -146,7 +147,10 @@ pub fn serial(
     let Ok(mut buf) = vec![in alloc; 0u8; MOST_ACCESS] else {
         return Err(RunBack::OutOfMemory { lanes });
     };
-    let mut engine = match Engine::new(alloc, settings.layout, lanes) {
+    let Ok(shapes) = shapes_of(alloc, workload, settings.layout.page_size()) else {
+        return Err(RunBack::OutOfMemory { lanes });
+    };
+    let mut engine = match Engine::new(alloc, settings.layout, &shapes, lanes) {
         Ok(engine) => engine,
         Err(lanes) => return Err(RunBack::OutOfMemory { lanes }),
     };

@@ -4,7 +4,9 @@ use Rattle.script_run.proofs.access.load.Given as goal
 
 abbrev pub invariant-loop-done : goal.invariant-loop-done
 invariant-loop-done l = record {
-  same : l.engine ≡ l.initial.engine;
+  page_size : l.engine.page_size ≡ l.initial.engine.page_size;
+  regions : l.engine.regions ≡ l.initial.engine.regions;
+  origins : l.engine.origins ≡ l.initial.engine.origins;
   within : l.done ≤ length l.buf;
   front : take l.done l.buf ≡ take l.done (drop l.off (bytes_at l.initial.engine.regions l.region));
 }

@@ -23,4 +23,4 @@ returns-in-Load c =
     let part : length (take a.len c.args.buf.now) ≡ a.len = omega (arith, range.short, c.requires.wide, length-take a.len c.args.buf.now) in
     rw a.is (ran_load a.region a.off a.len c.args.replies.now c.load-in-Load.new.self e c.load.new.engine c.load.new.buf range
     (c.load.ensures.bytes ∙ ap (λ (n : ℕ). take n (drop a.off (bytes_at e.regions a.region))) part)
-    c.load.ensures.same o.text o.spare o.loaded o.sum)
+    c.load.ensures.regions c.load.ensures.page_size c.load.ensures.origins o.text o.spare o.loaded o.sum)
