@@ -10,3 +10,6 @@ pub mod Runs
 pub mod Commands
 pub mod Openings
 pub mod Zeros
+pub mod Keyed
+pub mod Tying
+pub mod Paging

@@ -89,14 +89,17 @@ abbrev pub IsIn : Pages → Key → (frame : ℕ) → Type 0
 IsIn p key frame = frame_in (entry_of p.table key) ≡ Some frame
 
 -- what the engine shows of it
-abbrev pub seen_of : Pages → EngineSeen
-seen_of p = record {
-  page_size = p.lanes.page_size;
-  regions = contents_by (pages_in p.lanes.rows) (λ region page. page_now p.lanes.rows p.table p.buffers.items (record { region = region; page = page }));
-  origins = origins_of p.lanes.rows;
-  quotas = map (λ (b : BufferSeen). length b.frames) p.buffers.items;
-  residents = map (λ (b : BufferSeen). b.residents) p.buffers.items;
+abbrev pub seen_by : (size : ℕ) → List (List LaneSeen) → Table → List BufferSeen → EngineSeen
+seen_by size rows table buffers = record {
+  page_size = size;
+  regions = contents_by (pages_in rows) (λ region page. page_now rows table buffers (record { region = region; page = page }));
+  origins = origins_of rows;
+  quotas = map (λ (b : BufferSeen). length b.frames) buffers;
+  residents = map (λ (b : BufferSeen). b.residents) buffers;
 }
+
+abbrev pub seen_of : Pages → EngineSeen
+seen_of p = seen_by p.lanes.page_size p.lanes.rows p.table p.buffers.items
 
 -- what is kept of a page
 abbrev pub page_at : Pages → Key → List ℕ
