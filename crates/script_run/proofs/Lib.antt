@@ -13,3 +13,5 @@ pub mod Zeros
 pub mod Keyed
 pub mod Tying
 pub mod Paging
+pub mod Changes
+pub mod Founds
