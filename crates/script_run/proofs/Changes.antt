@@ -1,22 +1,24 @@
 -- Each change of one page: its bits, its way back to the lane, its way out of a frame and into one, and a store to it.
-use Rattle.std.proofs.Common.{Bool, List, None, Option, Some, [], ap, arith, cond, false, get_or, inl, inr, length, map, refl, set, subst, sym, true, ℕ, ◌+◌, ◌++◌, ◌<◌, ◌≤◌, ◌∙◌, ◌∷◌, ◌≡◌}
+use Rattle.std.proofs.Common.{Bool, List, None, Option, Some, [], ap, arith, cond, drop, false, get_or, is_some, slice_get, inl, inr, length, map, refl, set, subst, sym, true, ℕ, ◌+◌, ◌++◌, ◌<◌, ◌≤◌, ◌∙◌, ◌∷◌, ◌≡◌, ◌||◌}
 use Rattle.std.proofs.lemmas.Bool.{cases_Bool}
-use Rattle.std.proofs.lemmas.List.{get_or-set_same, get_or-set_other, length-set, set-get_or}
+use Rattle.std.proofs.lemmas.List.{get_or-set_same, get_or-set_other, length-map, length-set, set-get_or}
 use Rattle.page_base.specs.declared.keys.Key.{Key}
 use Rattle.page_base.specs.Lanes.{LaneSeen}
 use Rattle.soft_mmu.specs.declared.entry.PageEntry.{PageEntry}
 use Rattle.soft_mmu.specs.declared.entry.PageEntry.TheVariants.{Absent, Present}
 use Rattle.soft_mmu.specs.Entries.{entry_of, with_entry, HasPage}
-use Rattle.page_buffer.specs.Frames.{FrameSeen, Free, Reserved, Resident, resident_key, bytes_of, is_free}
-use Rattle.page_buffer.specs.Buffers.{BufferSeen, frame_of, free_frames, released}
+use Rattle.page_buffer.specs.Frames.{FrameSeen, Free, Reserved, Resident, resident_key, bytes_of, is_for, is_free, is_reserved}
+use Rattle.page_buffer.specs.Buffers.{BufferSeen, frame_of, free_frames, has_frame_for, released}
+use Rattle.page_buffer.proofs.Keys.{same_self}
 use Rattle.page_buffer.proofs.Counts.{one, count_by-set}
 use Rattle.script_run.specs.Contents.{page_told, pages_in, origins_of}
 use Rattle.script_run.specs.Engine.{EngineSeen, FitRows, WritesPage}
-use Rattle.script_run.specs.Residents.{home_of}
+use Rattle.script_run.specs.Residents.{is_in, home_of, keys_at, accessed}
 use Rattle.script_run.specs.Frames.{Table, IsPage, IsMarked, Tied, AreSound, frame_in, frame_here, no_buffer, buffer_at, bytes_by, page_now, is_dirty, seen_by}
-use Rattle.script_run.proofs.Keyed.{entry_set, entry_again, here_at, here_others, here_kept, held_within}
+use Rattle.script_run.proofs.Regions.{pages_in-same}
+use Rattle.script_run.proofs.Keyed.{not_same, entry_set, entry_again, here_at, here_others, here_kept, here_known, present_page, held_within, first_is, some_is, accessed_in, list_any_none, none_counted}
 use Rattle.script_run.proofs.Tying.{tied_same, all_same, bytes_changed, tied_filled, tied_left, released_is}
-use Rattle.script_run.proofs.Paging.{home_below, there, residents_at, page_here, page_else, sound_on, seen_on, order_same}
+use Rattle.script_run.proofs.Paging.{home_below, there, residents_at, told_now, sound_lanes, page_here, page_else, sound_on, seen_on, seen_same, order_same}
 
 -- what the lanes tell after a page was written back where it was dirty
 pub record WroteBack (t : Table) (k : Key) (bytes : List ℕ) (rows now : List (List LaneSeen)) : Type 0 where
@@ -202,3 +204,71 @@ module _ (size : ℕ) (rows : List (List LaneSeen)) (t : Table) (bs : List Buffe
     stored_else j n =
         ap (λ (x : Table). page_now rows x (set bs s stored) j) (sym (entry_again t k))
         ∙ page_else size rows t bs sound k page (entry_of t k) stored stored_tied stored_frames j n
+
+-- a page that lies in a stripe's order
+pub record Lies (rows : List (List LaneSeen)) (t : Table) (bs : List BufferSeen) (s : ℕ) (k : Key) : Type 0 where
+  pub page : IsPage (pages_in rows) k
+  pub home : s ≡ home_of (length bs) k
+  pub frame : ℕ
+  pub named : frame_in (entry_of t k) ≡ Some frame
+
+module _ (size : ℕ) (rows : List (List LaneSeen)) (t : Table) (bs : List BufferSeen) (sound : AreSound size rows t bs) where
+  pub lies : (s : ℕ) (k : Key) → s < length bs → is_in k (buffer_at bs s).residents ≡ true → Lies rows t bs s k
+  lies s k below is =
+      let found = some_is (frame_here t (length bs) s k) (sym ((sound.tied s below).residents k) ∙ is) in
+      let known = here_known t (length bs) s k found.0 found.1 in
+      record { page = present_page t (pages_in rows) k found.0 sound.table_pages known.1; home = sym known.0; frame = found.0; named = known.1 }
+
+  pub lies_first : (s : ℕ) (k : Key) → s < length bs → Some k ≡ slice_get (buffer_at bs s).residents 0 → Lies rows t bs s k
+  lies_first s k below first =
+      lies s k below (ap (is_in k) (first_is (buffer_at bs s).residents k first) ∙ ap (λ (y : Bool). y || is_in k (drop 1 (buffer_at bs s).residents)) (same_self k))
+
+  module _ (k : Key) (page : IsPage (pages_in rows) k) where
+    abbrev home : ℕ
+    home = home_of (length bs) k
+
+    -- whether a page is resident is as its entry says
+    pub in_order : is_in k (buffer_at bs home).residents ≡ is_some (frame_in (entry_of t k))
+    in_order = (sound.tied home (home_below size rows t bs sound k)).residents k ∙ ap is_some (here_at t (length bs) k)
+
+    pub in_seen : is_in k (keys_at (map (λ (x : BufferSeen). x.residents) bs) (home_of (length (map (λ (x : BufferSeen). x.residents) bs)) k)) ≡ is_some (frame_in (entry_of t k))
+    in_seen =
+        ap (λ (n : ℕ). is_in k (keys_at (map (λ (x : BufferSeen). x.residents) bs) (home_of n k))) (length-map bs (λ (x : BufferSeen). x.residents))
+        ∙ ap (is_in k) (residents_at size rows t bs sound home (home_below size rows t bs sound k))
+        ∙ in_order
+
+    -- a page that is resident stays where it is
+    pub stays : (f : ℕ) → frame_in (entry_of t k) ≡ Some f → seen_by size rows t bs ≡ record (seen_by size rows t bs) { residents = accessed (map (λ (x : BufferSeen). length x.frames) bs) k (map (λ (x : BufferSeen). x.residents) bs) }
+    stays f named = ap (λ (rs : List (List Key)). record (seen_by size rows t bs) { residents = rs }) (sym (accessed_in (map (λ (x : BufferSeen). length x.frames) bs) k (map (λ (x : BufferSeen). x.residents) bs) (in_seen ∙ ap is_some named)))
+
+    -- a page that isn't resident has no frame
+    pub fresh : entry_of t k ≡ Absent → has_frame_for (buffer_at bs home) k ≡ false
+    fresh absent =
+        let z = sound.tied home (home_below size rows t bs sound k) in
+        let none : frame_here t (length bs) home k ≡ None = here_at t (length bs) k ∙ ap frame_in absent in
+        list_any_none (is_for k) (buffer_at bs home).frames Free (λ i below. go i (frame_of (buffer_at bs home) i) refl (none_counted is_reserved (buffer_at bs home).frames z.none_reserved i below) none)
+      where
+        go : (i : ℕ) (x : FrameSeen) → frame_of (buffer_at bs home) i ≡ x → is_reserved (frame_of (buffer_at bs home) i) ≡ false → frame_here t (length bs) home k ≡ None → is_for k (frame_of (buffer_at bs home) i) ≡ false
+        go i Free is unreserved none = ap (is_for k) is
+        go i (Reserved j) is unreserved none = let reserved : is_reserved (frame_of (buffer_at bs home) i) ≡ true = ap is_reserved is in absurd cc
+        go i (Resident j bytes) is unreserved none = ap (is_for k) is ∙ not_same j k (λ jk.
+            let held : frame_here t (length bs) home j ≡ Some i = (sound.tied home (home_below size rows t bs sound k)).held i j (ap resident_key is) in
+            let again : frame_here t (length bs) home k ≡ Some i = ap (frame_here t (length bs) home) (sym jk) ∙ held in
+            absurd cc)
+
+    -- a page is written to its lane where it is dirty, and is clean then
+    module _ (p d : Bool) (f : ℕ) (is : entry_of t k ≡ Present p d f) (now : List (List LaneSeen)) (fit : FitRows size now) (wrote : WroteBack t k (page_now rows t bs k) rows now) where
+      mid : AreSound size now t bs
+      mid = sound_lanes size rows t bs sound now fit wrote.as_many wrote.origins wrote.clean
+
+      told_as : (j : Key) → page_now now t bs j ≡ page_now rows t bs j
+      told_as = told_now size rows t bs sound now fit wrote.as_many wrote.origins wrote.clean
+
+      page_still : IsPage (pages_in now) k
+      page_still = subst (λ (ps : List ℕ). IsPage ps k) (sym (pages_in-same rows now wrote.origins)) page
+
+      pub back_sound : AreSound size now (with_entry t k (Present true false f)) bs
+      back_sound = bits_sound size now t bs mid k page_still p d f is true false tt (λ _. told_as k ∙ sym wrote.here)
+
+      pub back_seen : seen_by size now (with_entry t k (Present true false f)) bs ≡ seen_by size rows t bs
+      back_seen = bits_seen size now t bs mid k page_still p d f is true false ∙ seen_same size rows now t t bs bs wrote.origins told_as refl

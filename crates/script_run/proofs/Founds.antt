@@ -45,3 +45,7 @@ names_of (Present p d g) f e = let at : g ≡ f = cc in record { protected = p; 
 pub present_names : (e : PageEntry) → IsTrue (is_present e) → (f : ℕ) × Names e f
 present_names Absent here = absurd cc
 present_names (Present p d f) here = (f, record { protected = p; dirty = d; is = refl })
+
+pub names_present : (e : PageEntry) (f : ℕ) → frame_in e ≡ Some f → IsTrue (is_present e)
+names_present Absent f e = absurd cc
+names_present (Present p d g) f e = refl

@@ -196,6 +196,7 @@ impl Pages {
         ensures sound { IsSound self.new }
         ensures seen { seen_of self.new ≡ record (seen_of self.old) { residents = slice_set (seen_of self.old).residents stripe (drop 1 (keys_at (seen_of self.old).residents stripe)) } }
         ensures room { 0 < free_frames (buffer_at self.new.buffers.items stripe) }
+        ensures fewer { length (buffer_at self.new.buffers.items stripe).residents < length (buffer_at self.new.buffers.items stripe).frames }
         ensures others { (k : Key) → entry_of self.old.table k ≡ Absent → entry_of self.new.table k ≡ Absent }
     {
         let Some(key) = self.buffers[stripe].nth(0) else {
@@ -213,11 +214,13 @@ impl Pages {
         ensures sound { IsSound self.new }
         ensures seen { seen_of self.new ≡ record (seen_of self.old) { residents = slice_set (seen_of self.old).residents stripe (with_room (quota_at (seen_of self.old).quotas stripe) (keys_at (seen_of self.old).residents stripe)) } }
         ensures room { 0 < free_frames (buffer_at self.new.buffers.items stripe) }
+        ensures fewer { length (buffer_at self.new.buffers.items stripe).residents < length (buffer_at self.new.buffers.items stripe).frames }
         ensures others { (k : Key) → entry_of self.old.table k ≡ Absent → entry_of self.new.table k ≡ Absent }
     {
-        if self.buffers[stripe].free() == 0 {
-            self.evict_oldest(stripe);
+        if self.buffers[stripe].free() > 0 {
+            return;
         }
+        self.evict_oldest(stripe);
     }
 
     /// Fills a frame with a page that isn't resident, `dirty` where it is to be stored to. Gives the frame.
