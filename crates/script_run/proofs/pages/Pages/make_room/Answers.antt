@@ -1,6 +1,6 @@
 use Rattle.std.proofs.Common.{ℕ, List, ◌<◌, ◌≤◌, ◌+◌, ◌≡◌, arith, drop, length, map, set, ap, sym, subst, ◌∙◌}
 use Rattle.page_base.specs.declared.keys.Key.{Key}
-use Rattle.page_buffer.specs.Buffers.{BufferSeen, free_frames}
+use Rattle.page_buffer.specs.Buffers.{BufferSeen, reserved_frames}
 use Rattle.script_run.specs.Engine.{EngineSeen}
 use Rattle.script_run.specs.Residents.{keys_at, quota_at, with_room}
 use Rattle.script_run.specs.Frames.{buffer_at, seen_of}
@@ -30,4 +30,11 @@ module _ (p : Pages) (s : ℕ) (sound : AreSound p.lanes.page_size p.lanes.rows 
   oldest_leaves full = room_made quota keys (omega (arith, full, ap length keys_are, quota_of_stripe))
 
 pub returns-clause-seen : goal.returns-clause-seen
-returns-clause-seen c = ?
+returns-clause-seen c =
+    let p = c.args.self.now in
+    let s = c.args.stripe in
+    let sound = c.requires.sound.parts in
+    let x = buffer_is p.buffers.items s c.index.result.now c.requires.below c.index.ensures in
+    let full : length (buffer_at p.buffers.items s).frames ≤ length (buffer_at p.buffers.items s).residents =
+    subst (λ (b : BufferSeen). length b.frames ≤ length b.residents) x (omega (arith, c.free.ensures.together, c.if-free-gt0.false, ap reserved_frames x ∙ (sound.tied s c.requires.below).none_reserved)) in
+    c.evict_oldest.ensures.seen ∙ ap (λ (ks : List Key). record (seen_of p) { residents = set (seen_of p).residents s ks }) (sym (oldest_leaves p s sound c.requires.below full))
