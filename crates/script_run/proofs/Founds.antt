@@ -49,3 +49,8 @@ present_names (Present p d f) here = (f, record { protected = p; dirty = d; is =
 pub names_present : (e : PageEntry) (f : ℕ) → frame_in e ≡ Some f → IsTrue (is_present e)
 names_present Absent f e = absurd cc
 names_present (Present p d g) f e = refl
+
+pub protected_names : (e : PageEntry) → Protected ≡ translation e wants.Write → IsProtected e
+protected_names Absent e = absurd cc
+protected_names (Present true d g) e = record { dirty = d; frame = g; is = refl }
+protected_names (Present false d g) e = absurd cc

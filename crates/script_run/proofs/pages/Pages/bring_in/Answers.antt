@@ -124,5 +124,40 @@ take_in-frame-requires-clause-fresh c =
     let z = roomy p q c.args.stripe c.args.key c.requires.sound.parts c.requires.page c.requires.home c.requires.missing m.sound.parts m.seen m.fewer m.others in
     fresh_there p q c.args.stripe c.args.key z c.index_mut.result.now c.index_mut.ensures.value
 
+told_there : (c : goal.After-install) → c.as_slice.result.now ≡ page_told c.make_room.new.self.lanes.rows c.args.key.region c.args.key.page
+told_there c =
+    let whole : length c.read_page.new.page ≡ c.make_room.new.self.scratch.len = c.read_page.auto.page ∙ c.as_mut_slice.ensures.len in
+    c.as_slice.ensures.value ∙ take_at c.read_page.new.page _ c.make_room.new.self.scratch.len whole ∙ c.read_page.ensures.bytes
+
+room_there : (c : goal.After-install) → HasRoom c.args.self.now c.make_room.new.self c.args.stripe c.args.key
+room_there c =
+    let m = c.make_room.ensures in
+    roomy c.args.self.now c.make_room.new.self c.args.stripe c.args.key c.requires.sound.parts c.requires.page c.requires.home c.requires.missing m.sound.parts m.seen m.fewer m.others
+
 pub returns-clause-sound : goal.returns-clause-sound
-returns-clause-sound c = ?
+returns-clause-sound c =
+    let q = c.make_room.new.self in
+    let i = c.take_in-frame in
+    record {
+      parts = in_sound c.args.self.now q c.args.stripe c.args.key (room_there c) c.args.dirty i.result c.as_slice.result.now c.index_mut.result.now i.new.buffer c.read_page.new.self c.install.new.self c.index_mut.ensures.value i.ensures.within i.ensures.free (told_there c) c.read_page.ensures.same c.install.ensures.entry i.ensures.filled;
+      scratch = c.make_room.ensures.sound.scratch ∙ sym (ap (λ (l : LanesSeen). l.page_size) c.read_page.ensures.same);
+    }
+
+pub returns-clause-seen : goal.returns-clause-seen
+returns-clause-seen c =
+    let q = c.make_room.new.self in
+    let i = c.take_in-frame in
+    in_seen_as c.args.self.now q c.args.stripe c.args.key (room_there c) c.args.dirty i.result c.as_slice.result.now c.index_mut.result.now i.new.buffer c.read_page.new.self c.install.new.self c.index_mut.ensures.value i.ensures.within i.ensures.free (told_there c) c.read_page.ensures.same c.install.ensures.entry i.ensures.filled
+    c.requires.sound.parts c.requires.page c.requires.home c.requires.missing
+
+entry_there : (c : goal.After-install) → entry_of c.install.new.self c.args.key ≡ Present (not c.args.dirty) c.args.dirty c.take_in-frame.result
+entry_there c =
+    let q = c.make_room.new.self in
+    let i = c.take_in-frame in
+    entry_now c.args.self.now q c.args.stripe c.args.key (room_there c) c.args.dirty i.result c.as_slice.result.now c.index_mut.result.now i.new.buffer c.read_page.new.self c.install.new.self c.index_mut.ensures.value i.ensures.within i.ensures.free (told_there c) c.read_page.ensures.same c.install.ensures.entry i.ensures.filled
+
+pub returns-clause-frame : goal.returns-clause-frame
+returns-clause-frame c = ap frame_in (entry_there c)
+
+pub returns-clause-dirty : goal.returns-clause-dirty
+returns-clause-dirty c = ap is_dirty (entry_there c)
