@@ -15,3 +15,4 @@ pub mod Tying
 pub mod Paging
 pub mod Changes
 pub mod Founds
+pub mod Accessed

@@ -52,9 +52,17 @@ module _ (size : ℕ) (pages : List ℕ) (page : ℕ → ℕ → List ℕ) (whol
       piece_loaded place n fits reach = ap (λ (xs : List ℕ). take n (drop place xs)) page_is ∙ take_of_page size p place n (bytes_at (contents_by pages page) r) fits reach
 
       -- one page stored to, all others as before
-      pub piece_stored : (now : ℕ → ℕ → List ℕ) (place : ℕ) (new : List ℕ) → place + length new ≤ size → now r p ≡ spliced (page r p) place new → ((q n : ℕ) → (q ≡ r → n ≡ p → ⊥) → now q n ≡ page q n) → contents_by pages now ≡ set (contents_by pages page) r (spliced (bytes_at (contents_by pages page) r) (p * size + place) new)
+      pub piece_stored : (now : ℕ → ℕ → List ℕ) (place : ℕ) (new : List ℕ) → place + length new ≤ size → now r p ≡ spliced (page r p) place new → ((q n : ℕ) → q < length pages → n < get_or pages q 0 → (q ≡ r → n ≡ p → ⊥) → now q n ≡ page q n) → contents_by pages now ≡ set (contents_by pages page) r (spliced (bytes_at (contents_by pages page) r) (p * size + place) new)
       piece_stored now place new fits is others =
           contents_by-changed size pages page now r p pages_whole known page_below (ap length is ∙ length-spliced (page r p) new place (omega (arith, whole r p known page_below)) ∙ whole r p known page_below)
-          (λ q n _ _ other. others q n (λ e _. other e)) (λ n _ other. others r n (λ _ e. other e))
+          (λ q n known_q below_n other. others q n known_q below_n (λ e _. other e)) (λ n below_n other. others r n known below_n (λ _ e. other e))
           ∙ ap (λ (xs : List ℕ). set (contents_by pages page) r (spliced (bytes_at (contents_by pages page) r) (p * size) xs)) (is ∙ ap (λ (xs : List ℕ). spliced xs place new) page_is)
           ∙ ap (λ (xs : List ℕ). set (contents_by pages page) r xs) (spliced_page size p place (bytes_at (contents_by pages page) r) new fits page_inside)
+
+-- regions with the same bytes have the same pages
+pub pages_from : (size : ℕ) (pages : List ℕ) (page now : ℕ → ℕ → List ℕ) → ((r p : ℕ) → r < length pages → p < get_or pages r 0 → length (page r p) ≡ size) → ((r p : ℕ) → r < length pages → p < get_or pages r 0 → length (now r p) ≡ size)
+    → contents_by pages now ≡ contents_by pages page → (r p : ℕ) → r < length pages → p < get_or pages r 0 → now r p ≡ page r p
+pages_from size pages page now whole whole_now same r p region below =
+    sym (page_of-joined size (get_or pages r 0) (now r) p (record { each = λ n lt. whole_now r n region lt }) below)
+    ∙ ap (λ (xs : List ℕ). page_of size xs p) (sym (get_or-contents_by pages now r [] region) ∙ ap (λ (rs : List (List ℕ)). get_or rs r []) same ∙ get_or-contents_by pages page r [] region)
+    ∙ page_of-joined size (get_or pages r 0) (page r) p (record { each = λ n lt. whole r n region lt }) below

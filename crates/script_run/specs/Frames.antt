@@ -111,7 +111,7 @@ pub record StoresPage (key : Key) (bytes : List ℕ) (old new : Pages) : Type 0 
   pub origins : origins_of new.lanes.rows ≡ origins_of old.lanes.rows
   pub quotas : (seen_of new).quotas ≡ (seen_of old).quotas
   pub stored : page_at new key ≡ bytes
-  pub others : (k : Key) → (key ≡ k → ⊥) → page_at new k ≡ page_at old k
+  pub others : (k : Key) → IsPage (pages_in old.lanes.rows) k → (key ≡ k → ⊥) → page_at new k ≡ page_at old k
 
 -- each stripe has a buffer of free frames, as many as its quota
 pub record AreEmpty (layout : Layout) (buffers : List BufferSeen) : Type 0 where
