@@ -16,3 +16,4 @@ pub mod Paging
 pub mod Changes
 pub mod Founds
 pub mod Accessed
+pub mod Seeing
