@@ -17,3 +17,6 @@ pub mod Changes
 pub mod Founds
 pub mod Accessed
 pub mod Seeing
+pub mod Opened
+pub mod Cleaning
+pub mod Shapes

@@ -116,4 +116,5 @@ pub record StoresPage (key : Key) (bytes : List ℕ) (old new : Pages) : Type 0 
 -- each stripe has a buffer of free frames, as many as its quota
 pub record AreEmpty (layout : Layout) (buffers : List BufferSeen) : Type 0 where
   pub stripes : length buffers ≡ layout.stripes
+  pub some : (s : ℕ) → s < layout.stripes → 1 ≤ quota_of layout.frames layout.stripes s
   pub each : (s : ℕ) → s < layout.stripes → buffer_at buffers s ≡ record { page_size = layout.page_size; frames = replicate (quota_of layout.frames layout.stripes s) Free; residents = [] }
