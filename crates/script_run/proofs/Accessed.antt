@@ -1,18 +1,17 @@
 -- A page that an access found in a frame: its bytes, and a store to them.
-use Rattle.std.proofs.Common.{Bool, IsTrue, List, None, Option, Some, [], ap, arith, drop, false, get_or, length, map, refl, set, subst, sym, take, true, ℕ, ◌+◌, ◌++◌, ◌<◌, ◌≤◌, ◌∙◌, ◌≡◌}
+use Rattle.std.proofs.Common.{Bool, IsTrue, List, Some, ap, arith, get_or, length, map, refl, set, subst, sym, true, ℕ, ◌+◌, ◌<◌, ◌≤◌, ◌∙◌, ◌≡◌}
 use Rattle.std.proofs.lemmas.Grind.{common_steps}
 use Rattle.std.proofs.lemmas.List.{get_or-map, length-map, length-set, map-set, set-get_or}
 use Rattle.page_base.specs.declared.keys.Key.{Key}
 use Rattle.page_base.specs.ListSeen.{spliced}
-use Rattle.soft_mmu.specs.declared.entry.PageEntry.{PageEntry}
 use Rattle.soft_mmu.specs.declared.entry.PageEntry.TheVariants.{Present}
 use Rattle.soft_mmu.specs.Entries.{entry_of}
 use Rattle.page_buffer.specs.Frames.{FrameSeen, Free, Reserved, Resident, resident_key, is_resident, bytes_of, with_bytes, refilled}
 use Rattle.page_buffer.specs.Buffers.{BufferSeen, frame_of, with_page}
 use Rattle.script_run.specs.Contents.{contents_by, pages_in, origins_of}
 use Rattle.script_run.specs.Engine.{EngineSeen}
-use Rattle.script_run.specs.Residents.{home_of, accessed}
-use Rattle.script_run.specs.Frames.{Table, IsPage, AreSound, StoresPage, buffer_at, no_buffer, frame_in, is_dirty, page_now, page_at, seen_of}
+use Rattle.script_run.specs.Residents.{home_of}
+use Rattle.script_run.specs.Frames.{IsPage, AreSound, buffer_at, no_buffer, frame_in, is_dirty, page_now, page_at, seen_of}
 use Rattle.script_run.specs.declared.pages.Pages.{Pages}
 use Rattle.script_run.proofs.Pieces.{length-spliced}
 use Rattle.script_run.proofs.Regions.{pages_in-same, pages_from}

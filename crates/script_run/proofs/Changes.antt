@@ -1,5 +1,5 @@
 -- Each change of one page: its bits, its way back to the lane, its way out of a frame and into one, and a store to it.
-use Rattle.std.proofs.Common.{Bool, List, None, Option, Some, [], ap, arith, cond, drop, false, get_or, is_some, slice_get, inl, inr, length, map, refl, set, subst, sym, true, ℕ, ◌+◌, ◌++◌, ◌<◌, ◌≤◌, ◌∙◌, ◌∷◌, ◌≡◌, ◌||◌}
+use Rattle.std.proofs.Common.{Bool, List, None, Some, [], ap, arith, drop, false, is_some, slice_get, inl, inr, length, map, refl, set, subst, sym, true, ℕ, ◌++◌, ◌<◌, ◌∙◌, ◌∷◌, ◌≡◌, ◌||◌}
 use Rattle.std.proofs.lemmas.Bool.{cases_Bool}
 use Rattle.std.proofs.lemmas.List.{get_or-set_same, get_or-set_other, length-map, length-set, set-get_or}
 use Rattle.page_base.specs.declared.keys.Key.{Key}
@@ -12,7 +12,7 @@ use Rattle.page_buffer.specs.Buffers.{BufferSeen, frame_of, free_frames, has_fra
 use Rattle.page_buffer.proofs.Keys.{same_self}
 use Rattle.page_buffer.proofs.Counts.{one, count_by-set}
 use Rattle.script_run.specs.Contents.{page_told, pages_in, origins_of}
-use Rattle.script_run.specs.Engine.{EngineSeen, FitRows, WritesPage}
+use Rattle.script_run.specs.Engine.{FitRows, WritesPage}
 use Rattle.script_run.specs.Residents.{is_in, home_of, keys_at, accessed}
 use Rattle.script_run.specs.Frames.{Table, IsPage, IsMarked, Tied, AreSound, frame_in, frame_here, no_buffer, buffer_at, bytes_by, page_now, is_dirty, seen_by}
 use Rattle.script_run.proofs.Regions.{pages_in-same}

@@ -1,10 +1,10 @@
 -- What the page table's answers say of an entry.
-use Rattle.std.proofs.Common.{Bool, IsTrue, Some, ap, false, refl, sym, true, ℕ, ◌∙◌, ◌≡◌}
+use Rattle.std.proofs.Common.{Bool, IsTrue, Some, ap, false, refl, true, ℕ, ◌≡◌}
 use Rattle.soft_mmu.specs.declared.entry.PageEntry.{PageEntry}
 use Rattle.soft_mmu.specs.declared.entry.PageEntry.TheVariants.{Absent, Present}
 use Rattle.soft_mmu.specs.declared.entry.Wants.{Wants}
 use Rattle.soft_mmu.specs.declared.entry.Wants.TheVariants as wants
-use Rattle.soft_mmu.specs.declared.entry.Found.TheVariants.{Hit, Missing, Protected}
+use Rattle.soft_mmu.specs.declared.entry.Found.TheVariants.{Hit, Protected}
 use Rattle.soft_mmu.specs.Entries.{translation, is_present, is_protected}
 use Rattle.script_run.specs.Frames.{IsMarked, frame_in, is_dirty}
 

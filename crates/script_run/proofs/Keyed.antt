@@ -1,5 +1,5 @@
 -- Look-ups by key: the entry of a page, the frame that holds it, and its place among the resident pages.
-use Rattle.std.proofs.Common.{Bool, List, None, Option, Some, [], ap, arith, cond, drop, false, get_or, is_some, slice_get, suc, zero, inl, inr, length, map, not, refl, set, subst, sym, true, ℕ, ◌+◌, ◌++◌, ◌<◌, ◌≤◌, ◌==◌, ◌∙◌, ◌∷◌, ◌≡◌, ◌⊎◌, ◌||◌}
+use Rattle.std.proofs.Common.{Bool, List, None, Option, Some, [], ap, arith, cond, drop, false, get_or, is_some, slice_get, suc, inl, inr, length, map, not, refl, set, subst, sym, true, ℕ, ◌++◌, ◌<◌, ◌≤◌, ◌==◌, ◌∙◌, ◌∷◌, ◌≡◌, ◌⊎◌, ◌||◌}
 use Rattle.std.specs.List.{count_by, list_any}
 use Rattle.std.proofs.lemmas.Bool.{cases_Bool, cases_eq, cases_lt, eq-eqb, false_from_ne_true, ne_eqb, or_parts, lt-ltb, le-ltb}
 use Rattle.std.proofs.lemmas.List.{get_or-map, get_or-set_same, get_or-set_other, get_or_default, get_or_past, length-map, length-set, map-set, set-get_or, set-set}
@@ -7,7 +7,7 @@ use Rattle.std.proofs.lemmas.List.Folds.{list_any-append}
 use Rattle.page_base.specs.Pages.{same}
 use Rattle.page_base.specs.declared.keys.Key.{Key}
 use Rattle.soft_mmu.specs.declared.entry.PageEntry.{PageEntry}
-use Rattle.soft_mmu.specs.declared.entry.PageEntry.TheVariants.{Absent, Present}
+use Rattle.soft_mmu.specs.declared.entry.PageEntry.TheVariants.{Absent}
 use Rattle.soft_mmu.specs.Entries.{entry_of, pages_of, with_entry, HasPage}
 use Rattle.page_buffer.specs.Frames.{FrameSeen, Free, Reserved, Resident, resident_key, is_reserved, is_resident, page_of}
 use Rattle.page_buffer.specs.Buffers.{BufferSeen, frame_of, without}
@@ -80,7 +80,7 @@ present_page t pages k f e is =
 pub here_at : (t : Table) (n : ℕ) (k : Key) → frame_here t n (home_of n k) k ≡ frame_in (entry_of t k)
 here_at t n k = ap (λ (b : Bool). cond b (frame_in (entry_of t k)) None) (eq-eqb (home_of n k) (home_of n k) refl)
 
-here_else : (t : Table) (n s : ℕ) (k : Key) → (home_of n k ≡ s → ⊥) → frame_here t n s k ≡ None
+pub here_else : (t : Table) (n s : ℕ) (k : Key) → (home_of n k ≡ s → ⊥) → frame_here t n s k ≡ None
 here_else t n s k other = ap (λ (b : Bool). cond b (frame_in (entry_of t k)) None) (ne_eqb (home_of n k) s other)
 
 here_same : (t new : Table) (n s : ℕ) (k : Key) → frame_in (entry_of new k) ≡ frame_in (entry_of t k) → frame_here new n s k ≡ frame_here t n s k

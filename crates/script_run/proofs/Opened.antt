@@ -1,6 +1,6 @@
 -- Pages of which none is resident yet.
-use Rattle.std.proofs.Common.{Bool, List, None, Option, Some, [], ap, arith, false, get_or, inl, inr, is_some, length, map, refl, replicate, subst, suc, sym, zero, ℕ, ◌+◌, ◌<◌, ◌≤◌, ◌∙◌, ◌∷◌, ◌≡◌}
-use Rattle.std.specs.List.{count_by, list_any}
+use Rattle.std.proofs.Common.{List, None, [], ap, arith, false, get_or, inl, inr, is_some, length, map, refl, replicate, subst, suc, sym, zero, ℕ, ◌<◌, ◌≤◌, ◌∙◌, ◌∷◌, ◌≡◌}
+use Rattle.std.specs.List.{list_any}
 use Rattle.std.proofs.lemmas.Bool.{cases_eq}
 use Rattle.std.proofs.lemmas.List.{get_or-map, length-map, length-replicate}
 use Rattle.page_base.specs.Pages.{quota_of}
@@ -9,15 +9,15 @@ use Rattle.page_base.specs.declared.keys.RegionShape.{RegionShape}
 use Rattle.page_base.specs.declared.layout.Layout.{Layout}
 use Rattle.page_base.specs.Lanes.{LaneSeen}
 use Rattle.soft_mmu.specs.declared.entry.PageEntry.{PageEntry}
-use Rattle.soft_mmu.specs.declared.entry.PageEntry.TheVariants.{Absent, Present}
+use Rattle.soft_mmu.specs.declared.entry.PageEntry.TheVariants.{Absent}
 use Rattle.soft_mmu.specs.Entries.{entry_of, pages_of, no_pages}
-use Rattle.page_buffer.specs.Frames.{FrameSeen, Free, is_reserved, resident_key}
-use Rattle.page_buffer.specs.Buffers.{BufferSeen, frame_of}
+use Rattle.page_buffer.specs.Frames.{Free, is_reserved, resident_key}
+use Rattle.page_buffer.specs.Buffers.{BufferSeen}
 use Rattle.page_buffer.proofs.Counts.{count_by-none}
 use Rattle.script_run.specs.Contents.{contents_by, contents_of, page_told, pages_in}
 use Rattle.script_run.specs.Engine.{FitRows}
-use Rattle.script_run.specs.Residents.{AreQuotasOf, home_of, quota_at}
-use Rattle.script_run.specs.Frames.{Table, AreEmpty, AreSound, IsMarked, Tied, buffer_at, bytes_by, frame_in, frame_here, no_buffer, page_now, is_dirty}
+use Rattle.script_run.specs.Residents.{AreQuotasOf, home_of}
+use Rattle.script_run.specs.Frames.{Table, AreEmpty, AreSound, IsMarked, Tied, buffer_at, bytes_by, frame_in, frame_here, no_buffer, page_now}
 use Rattle.script_run.proofs.Contents.{contents_by-same}
 use Rattle.script_run.proofs.Keyed.{here_at, here_else}
 

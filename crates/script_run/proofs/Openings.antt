@@ -86,7 +86,7 @@ sizes_whole z (g ∷ gs) whole zero below = omega (arith, div-add-mod' g.size z,
 sizes_whole z (g ∷ gs) whole (suc r) below = sizes_whole z gs (and_parts _ _ whole).1 r (omega arith)
 
 -- no region of lines that can be run is large
-sizes_small : (gs : List Region) (ls : List Line) → AllFit gs ls → (r : ℕ) → size_at (regions_of ls) r ≤ 16777216
+pub sizes_small : (gs : List Region) (ls : List Line) → AllFit gs ls → (r : ℕ) → size_at (regions_of ls) r ≤ 16777216
 sizes_small gs [] fit r = omega arith
 sizes_small gs (map_line name in_memory size writable ∷ ls) fit zero = fit.0.most
 sizes_small gs (map_line name in_memory size writable ∷ ls) fit (suc r) = sizes_small gs ls fit.1 r

@@ -1,17 +1,17 @@
 -- That a change of one page, its entry and its stripe's buffer, keeps the pages sound, and what it makes of what is seen.
-use Rattle.std.proofs.Common.{Bool, List, None, Option, Some, [], ap, arith, cond, drop, false, get_or, inl, inr, length, map, refl, set, subst, sym, true, ℕ, ◌+◌, ◌*◌, ◌/◌, ◌%◌, ◌<◌, ◌≤◌, ◌==◌, ◌∙◌, ◌∷◌, ◌≡◌}
+use Rattle.std.proofs.Common.{List, Some, [], ap, arith, false, inl, inr, length, map, refl, set, subst, sym, ℕ, ◌+◌, ◌/◌, ◌<◌, ◌∙◌, ◌≡◌}
 use Rattle.std.proofs.lemmas.Bool.{cases_eq}
-use Rattle.std.proofs.lemmas.List.{get_or-map, get_or-set_same, get_or-set_other, length-map, length-set, map-set, set-get_or}
+use Rattle.std.proofs.lemmas.List.{get_or-map, get_or-set_same, get_or-set_other, length-set, map-set, set-get_or}
 use Rattle.std.proofs.lemmas.Nat.{mod_below}
 use Rattle.page_base.specs.declared.keys.Key.{Key}
-use Rattle.page_base.specs.Lanes.{Origin, LaneSeen}
+use Rattle.page_base.specs.Lanes.{LaneSeen}
 use Rattle.soft_mmu.specs.declared.entry.PageEntry.{PageEntry}
 use Rattle.soft_mmu.specs.declared.entry.PageEntry.TheVariants.{Absent, Present}
 use Rattle.soft_mmu.specs.Entries.{entry_of, with_entry, HasPage}
-use Rattle.page_buffer.specs.Frames.{FrameSeen, bytes_of}
+use Rattle.page_buffer.specs.Frames.{bytes_of}
 use Rattle.page_buffer.specs.Buffers.{BufferSeen, frame_of}
 use Rattle.script_run.specs.Contents.{contents_by, page_told, pages_in, origins_of}
-use Rattle.script_run.specs.Engine.{EngineSeen, FitRows}
+use Rattle.script_run.specs.Engine.{FitRows}
 use Rattle.script_run.specs.Residents.{home_of, keys_at, quota_at}
 use Rattle.script_run.specs.Frames.{Table, IsPage, IsMarked, Tied, AreSound, frame_in, frame_here, no_buffer, buffer_at, bytes_by, page_now, is_dirty, seen_by}
 use Rattle.script_run.proofs.Contents.{contents_by-same}

@@ -1,11 +1,10 @@
 -- What the engine shows of its pages.
-use Rattle.std.proofs.Common.{List, [], ap, arith, get_or, inl, inr, length, map, sym, ℕ, ◌<◌, ◌≤◌, ◌∙◌, ◌≡◌}
+use Rattle.std.proofs.Common.{[], ap, arith, get_or, inl, inr, length, map, ℕ, ◌<◌, ◌≡◌}
 use Rattle.std.proofs.lemmas.Bool.{cases_lt}
 use Rattle.std.proofs.lemmas.List.{get_or_past, length-map}
-use Rattle.page_base.specs.declared.keys.Key.{Key}
 use Rattle.page_buffer.specs.Buffers.{BufferSeen}
 use Rattle.script_run.specs.Contents.{pages_in}
-use Rattle.script_run.specs.Residents.{AreWithinQuotas, keys_at, quota_at}
+use Rattle.script_run.specs.Residents.{AreWithinQuotas}
 use Rattle.script_run.specs.Frames.{AreSound, page_at, seen_of}
 use Rattle.script_run.specs.declared.pages.Pages.{Pages}
 use Rattle.script_run.proofs.Paging.{residents_at, quota_is}

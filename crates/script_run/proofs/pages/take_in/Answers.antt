@@ -1,6 +1,5 @@
-use Rattle.std.proofs.Common.{List, ◌≡◌, ◌∷◌, ◌++◌, [], set, ap, refl, sym, ◌∙◌}
+use Rattle.std.proofs.Common.{List, ◌≡◌, ◌∷◌, ◌++◌, [], set, ap, ◌∙◌}
 use Rattle.std.proofs.lemmas.List.{set-set, get_or-set_same}
-use Rattle.page_base.specs.declared.keys.Key.{Key}
 use Rattle.page_buffer.specs.Frames.{FrameSeen, Free, Reserved, Resident, page_of}
 use Rattle.page_buffer.specs.Buffers.{BufferSeen, frame_of, with_frame, filled}
 use Rattle.script_run.proofs.pages.take_in.Goals as goal

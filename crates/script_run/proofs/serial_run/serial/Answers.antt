@@ -1,8 +1,10 @@
-use Rattle.std.proofs.Common.{List, ℕ, sym, subst, arith}
+use Rattle.std.proofs.Common.{List, ℕ, ap, sym, subst, ◌∙◌, arith}
 use Rattle.workload_text.specs.View.{lines_of}
 use Rattle.workload_text.specs.Accepted.{regions_of}
+use Rattle.script_run.specs.Fits.{pages_of}
 use Rattle.script_run.specs.Running.{AreRegions}
-use Rattle.script_run.proofs.Openings.{fit_rows, regions_fit}
+use Rattle.script_run.proofs.Openings.{fit_rows, pages_fit, regions_fit}
+use Rattle.script_run.proofs.Shapes.{maps_small, few_pages}
 use Rattle.script_run.proofs.Runs.{rooms_bounded}
 use Rattle.script_run.proofs.serial_run.serial.Goals as goal
 
@@ -25,3 +27,21 @@ run_scripts-requires-clause-may c =
       room = omega (arith, c.room_of.ensures, c.in-Ok.ensures.room);
       few = omega (arith, c.in-Ok.ensures.loaded, c.requires.runnable.loaded);
     }
+
+pub shapes_of-requires-clause-small : goal.shapes_of-requires-clause-small
+shapes_of-requires-clause-small c = maps_small c.args.workload.now c.requires.runnable
+
+pub new-requires-clause-pages : goal.new-requires-clause-pages
+new-requires-clause-pages c =
+    let layout = c.args.settings.now.layout in
+    let gs = regions_of (lines_of c.args.workload.now) in
+    c.in-Ok-shapes_of.ensures
+    ∙ ap (λ (z : ℕ). pages_of z gs) c.page_size.ensures
+    ∙ sym (pages_fit layout gs c.args.lanes.stripes.items c.requires.lanes)
+
+pub new-requires-clause-few : goal.new-requires-clause-few
+new-requires-clause-few c =
+    let layout = c.args.settings.now.layout in
+    let gs = regions_of (lines_of c.args.workload.now) in
+    few_pages (lines_of c.args.workload.now) c.in-Ok-shapes_of.shapes.items layout.page_size c.requires.runnable layout.large_pages
+    (c.in-Ok-shapes_of.ensures ∙ ap (λ (z : ℕ). pages_of z gs) c.page_size.ensures)

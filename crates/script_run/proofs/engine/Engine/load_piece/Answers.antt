@@ -1,10 +1,8 @@
-use Rattle.std.proofs.Common.{◌≡◌, ◌<◌, ◌≤◌, ◌+◌, ◌*◌, ℕ, List, length, take, drop, sym, ap, subst, ◌∙◌, arith}
-use Rattle.page_base.specs.declared.keys.Key.{Key}
+use Rattle.std.proofs.Common.{◌<◌, ◌≤◌, ◌+◌, ◌*◌, ℕ, List, length, take, drop, sym, ap, subst, ◌∙◌, arith}
 use Rattle.script_run.specs.Serial.{bytes_at}
-use Rattle.script_run.specs.Contents.{contents_by, pages_in}
+use Rattle.script_run.specs.Contents.{pages_in}
 use Rattle.script_run.specs.Engine.{EngineSeen}
 use Rattle.script_run.specs.Frames.{page_at, seen_of}
-use Rattle.script_run.specs.Residents.{AreWithinQuotas}
 use Rattle.script_run.proofs.Regions.{known_region, page_below, piece_loaded}
 use Rattle.script_run.proofs.Seeing.{whole_pages, within_quotas}
 use Rattle.script_run.proofs.engine.Engine.load_piece.Goals as goal

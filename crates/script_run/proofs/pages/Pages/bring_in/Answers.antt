@@ -1,4 +1,4 @@
-use Rattle.std.proofs.Common.{Bool, List, None, Some, true, false, not, [], ℕ, ◌<◌, ◌++◌, ◌≡◌, ◌∷◌, arith, get_or, is_some, length, map, set, refl, ap, sym, subst, ◌∙◌}
+use Rattle.std.proofs.Common.{Bool, List, true, false, not, [], ℕ, ◌<◌, ◌++◌, ◌≡◌, ◌∷◌, get_or, is_some, length, set, refl, ap, sym, subst, ◌∙◌}
 use Rattle.std.proofs.lemmas.List.{get_or-set_same, length-map, set-set, take_at}
 use Rattle.page_base.specs.declared.keys.Key.{Key}
 use Rattle.soft_mmu.specs.declared.entry.PageEntry.{PageEntry}

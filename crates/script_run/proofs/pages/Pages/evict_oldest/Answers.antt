@@ -1,21 +1,19 @@
-use Rattle.std.proofs.Common.{Bool, List, Some, true, false, [], ℕ, ◌<◌, ◌+◌, ◌≡◌, ◌∷◌, arith, IsTrue, drop, get_or, length, map, set, slice_get, refl, ap, sym, subst, ◌∙◌}
+use Rattle.std.proofs.Common.{List, Some, true, false, ℕ, ◌<◌, ◌≡◌, ◌∷◌, arith, IsTrue, drop, get_or, length, set, slice_get, ap, sym, subst, ◌∙◌}
 use Rattle.std.proofs.lemmas.List.{get_or-set_same, length-set}
 use Rattle.page_base.specs.declared.keys.Key.{Key}
-use Rattle.page_base.specs.Lanes.{LaneSeen, Origin}
-use Rattle.soft_mmu.specs.declared.entry.PageEntry.{PageEntry}
 use Rattle.soft_mmu.specs.declared.entry.PageEntry.TheVariants.{Absent, Present}
-use Rattle.soft_mmu.specs.Entries.{entry_of, with_entry, is_present}
+use Rattle.soft_mmu.specs.Entries.{entry_of, with_entry}
 use Rattle.page_buffer.specs.Frames.{Free, is_resident}
 use Rattle.page_buffer.specs.Buffers.{BufferSeen, frame_of, free_frames, released}
 use Rattle.script_run.specs.Contents.{pages_in, origins_of}
 use Rattle.script_run.specs.Engine.{EngineSeen}
 use Rattle.script_run.specs.Residents.{home_of, keys_at}
-use Rattle.script_run.specs.Frames.{Table, IsPage, AreSound, buffer_at, no_buffer, frame_in, is_dirty, seen_by, seen_of}
+use Rattle.script_run.specs.Frames.{Table, IsPage, AreSound, buffer_at, no_buffer, is_dirty, seen_by, seen_of}
 use Rattle.script_run.specs.declared.pages.Pages.{Pages}
 use Rattle.script_run.proofs.Regions.{pages_in-same}
 use Rattle.script_run.proofs.Keyed.{entry_set, buffer_is, first_is, holds_page}
-use Rattle.script_run.proofs.Founds.{names_of, names_present}
-use Rattle.script_run.proofs.Paging.{home_below, there, residents_at}
+use Rattle.script_run.proofs.Founds.{names_present}
+use Rattle.script_run.proofs.Paging.{there, residents_at}
 use Rattle.script_run.proofs.Changes.{Lies, lies_first, frame_holds, after_is, evicted_sound, evicted_seen, evicted_room}
 use Rattle.script_run.proofs.pages.Pages.evict_oldest.Goals as goal
 

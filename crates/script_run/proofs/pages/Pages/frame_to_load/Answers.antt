@@ -1,4 +1,4 @@
-use Rattle.std.proofs.Common.{Some, ap, ◌∙◌}
+use Rattle.std.proofs.Common.{ap}
 use Rattle.soft_mmu.specs.declared.entry.Wants.TheVariants as wants
 use Rattle.soft_mmu.specs.Entries.{entry_of}
 use Rattle.script_run.specs.Frames.{frame_in}

@@ -1,7 +1,5 @@
-use Rattle.std.proofs.Common.{List, ℕ, ◌≤◌, ◌+◌, ◌-◌, ◌≡◌, arith, drop, length, take, ap, sym, ◌∙◌}
-use Rattle.script_run.specs.Residents.{accessed}
-use Rattle.script_run.specs.Frames.{page_at, seen_of}
-use Rattle.script_run.proofs.Accessed.{Found, found, resident_there, size_there, bytes_there}
+use Rattle.std.proofs.Common.{List, ℕ, arith, drop, length, take, ap, ◌∙◌}
+use Rattle.script_run.proofs.Accessed.{found, resident_there, size_there, bytes_there}
 use Rattle.script_run.proofs.pages.Pages.load.Goals as goal
 
 pub bytes-bytes-requires : goal.bytes-bytes-requires

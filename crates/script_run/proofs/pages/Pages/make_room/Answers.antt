@@ -1,7 +1,6 @@
-use Rattle.std.proofs.Common.{ℕ, List, ◌<◌, ◌≤◌, ◌+◌, ◌≡◌, arith, drop, length, map, set, ap, sym, subst, ◌∙◌}
+use Rattle.std.proofs.Common.{ℕ, List, ◌<◌, ◌≤◌, ◌≡◌, arith, drop, length, map, set, ap, sym, subst, ◌∙◌}
 use Rattle.page_base.specs.declared.keys.Key.{Key}
 use Rattle.page_buffer.specs.Buffers.{BufferSeen, reserved_frames}
-use Rattle.script_run.specs.Engine.{EngineSeen}
 use Rattle.script_run.specs.Residents.{keys_at, quota_at, with_room}
 use Rattle.script_run.specs.Frames.{buffer_at, seen_of}
 use Rattle.script_run.specs.declared.pages.Pages.{Pages}

@@ -1,4 +1,4 @@
-use Rattle.std.proofs.Common.{Bool, true, false, ◌≡◌, refl, ap, sym, subst, ◌∙◌}
+use Rattle.std.proofs.Common.{true, false, ◌≡◌, refl, ap, sym, subst, ◌∙◌}
 use Rattle.soft_mmu.specs.declared.entry.PageEntry.{PageEntry}
 use Rattle.soft_mmu.specs.declared.entry.PageEntry.TheVariants.{Present}
 use Rattle.soft_mmu.specs.Entries.{entry_of, with_entry, opened}

@@ -1,6 +1,6 @@
-use Rattle.std.proofs.Common.{List, ℕ, ◌≤◌, ◌+◌, ◌≡◌, arith, length, map, ap, sym, ◌∙◌}
+use Rattle.std.proofs.Common.{arith, ap, ◌∙◌}
 use Rattle.script_run.specs.Engine.{EngineSeen}
-use Rattle.script_run.proofs.Accessed.{Found, found, resident_there, size_there, sound_stored, now_stored, others_stored, quotas_stored, order_stored}
+use Rattle.script_run.proofs.Accessed.{found, resident_there, size_there, sound_stored, now_stored, others_stored, quotas_stored, order_stored}
 use Rattle.script_run.proofs.pages.Pages.store.Goals as goal
 
 pub write_over-requires-clause-resident : goal.write_over-requires-clause-resident

@@ -1,5 +1,4 @@
-use Rattle.std.proofs.Common.{Bool, List, true, false, ℕ, ◌<◌, ◌≡◌, length, ap, sym, subst, ◌∙◌}
-use Rattle.page_base.specs.Lanes.{LaneSeen}
+use Rattle.std.proofs.Common.{List, true, false, ℕ, ◌<◌, ◌≡◌, length, ap, sym, subst, ◌∙◌}
 use Rattle.soft_mmu.specs.declared.entry.Bits.{Bits}
 use Rattle.soft_mmu.specs.declared.entry.PageEntry.{PageEntry}
 use Rattle.soft_mmu.specs.declared.entry.PageEntry.TheVariants.{Present}
@@ -7,7 +6,7 @@ use Rattle.soft_mmu.specs.declared.entry.Wants.TheVariants as wants
 use Rattle.soft_mmu.specs.Entries.{entry_of, with_entry, closed, cleaned}
 use Rattle.page_buffer.specs.Frames.{bytes_of}
 use Rattle.page_buffer.specs.Buffers.{BufferSeen, frame_of}
-use Rattle.script_run.specs.Engine.{LanesSeen, EngineSeen, FitRows, WritesPage}
+use Rattle.script_run.specs.Engine.{LanesSeen, FitRows, WritesPage}
 use Rattle.script_run.specs.Residents.{home_of}
 use Rattle.script_run.specs.Frames.{Table, AreSound, buffer_at, is_dirty, page_now, seen_by}
 use Rattle.script_run.proofs.Keyed.{entry_set, entry_twice, buffer_is}
