@@ -75,8 +75,7 @@ fn buffers_of(alloc: Global, layout: &Layout) -> Result<Vec<PageBuffer>, OutOfMe
     ensures { IfOk result (λ buffers. AreEmpty layout.now buffers.items) }
 {
     let stripes = layout.stripes();
-    let mut buffers =
-        Vec::with_capacity(alloc, stripes as usize).map_err(|_| OutOfMemory)?;
+    let mut buffers = Vec::with_capacity(alloc, stripes as usize).map_err(|_| OutOfMemory)?;
     for stripe in 0..stripes {
         let buffer = PageBuffer::new(alloc, layout.quota(stripe), layout.page_size())?;
         buffers.push_reserved(buffer);
@@ -92,11 +91,7 @@ struct Room {
     scratch: Vec<u8>,
 }
 
-fn room_for(
-    alloc: Global,
-    layout: &Layout,
-    shapes: &List<RegionShape>,
-) -> Result<Room, OutOfMemory>
+fn room_for(alloc: Global, layout: &Layout, shapes: &List<RegionShape>) -> Result<Room, OutOfMemory>
     requires few { sum_by (λ s. s.pages) shapes.now.items ≤ 1048576 }
     ensures table { IfOk result (λ r. r.table ≡ no_pages shapes.now.items) }
     ensures buffers { IfOk result (λ r. AreEmpty layout.now r.buffers.items) }
@@ -143,11 +138,13 @@ impl Pages {
         ensures back { IfErr result (λ back. back ≡ lanes) }
     {
         match room_for(alloc, &layout, shapes) {
-            Ok(Room {
-                table,
-                buffers,
-                scratch,
-            }) => Ok(Pages {
+            Ok(
+                Room {
+                    table,
+                    buffers,
+                    scratch,
+                },
+            ) => Ok(Pages {
                 lanes: Lanes::new(layout, lanes),
                 table,
                 buffers,
@@ -182,7 +179,12 @@ impl Pages {
             unreachable!()
         };
         let bits = self.table.bits(key);
-        write_dirty(&mut self.lanes, key, bits, self.buffers[stripe].bytes(frame));
+        write_dirty(
+            &mut self.lanes,
+            key,
+            bits,
+            self.buffers[stripe].bytes(frame),
+        );
         self.table.protect(key);
         self.table.mark_clean(key);
         frame

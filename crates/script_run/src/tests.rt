@@ -41,6 +41,16 @@ fn workloads_have_their_texts(rt: HostRuntime) {
             "map A memory 128 rw\nscript s\nstore A 0 aa\nload A 64 1\nload A 0 1\n",
             "script s\nok\nload 00\nload aa\n",
         ),
+        // A page that is loaded, stored to, left, and comes back.
+        (
+            "map A memory 128 rw\nscript s\nload A 0 1\nstore A 0 aa\nload A 64 1\nload A 0 1\n",
+            "script s\nload 00\nok\nload 00\nload aa\n",
+        ),
+        // More pages than frames, each stored to.
+        (
+            "map A memory 256 rw\nscript s\nstore A 0 aa\nstore A 64 bb\nstore A 128 cc\nstore A 0 dd\nload A 0 1\nload A 64 1\nload A 128 1\n",
+            "script s\nok\nok\nok\nok\nload dd\nload bb\nload cc\n",
+        ),
         // Accesses across a page border.
         (
             "map A memory 128 rw\nscript s\nstore A 62 01020304\nload A 62 4\n",
@@ -52,7 +62,7 @@ fn workloads_have_their_texts(rt: HostRuntime) {
             "script s\nok\nscript t\nload 01\nload\n",
         ),
     ];
-    for (stripes, frames) in [(1, 1), (4, 5), (64, 64)] {
+    for (stripes, frames) in [(1, 1), (1, 2), (4, 5), (64, 64)] {
         let Ok(layout) = Layout::new(64, stripes, frames) else {
             panic!(rt; "{stripes} stripes");
         };
@@ -70,7 +80,7 @@ fn workloads_have_their_texts(rt: HostRuntime) {
 #[test]
 fn loaded_bytes_are_counted_and_added_up(rt: HostRuntime) {
     for page_size in [64, 4096, 65536] {
-        let Ok(layout) = Layout::new(page_size, 2, 3) else {
+        let Ok(layout) = Layout::new(page_size, 1, 1) else {
             panic!(rt; "pages of {page_size} bytes");
         };
         let text =
