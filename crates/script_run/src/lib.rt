@@ -1,8 +1,9 @@
 //! Runs the scripts of a workload one after another.
 //!
-//! It stands on the workload language and on the lanes of backing stores. `serial` promises the text, the contents and
-//! the loaded bytes of the serial meaning in `specs/Serial.antt`, whatever page size, buffer and stripes are set. Beside
-//! it stand what a run is made of: its settings, the lanes of regions in memory, and the streams that input comes from
+//! It stands on the workload language, on the page table and the page buffer, and on the lanes of backing stores. `serial`
+//! promises the text, the contents and the loaded bytes of the serial meaning in `specs/Serial.antt`, whatever page size,
+//! buffer and stripes are set; its engine keeps never more resident pages than each stripe's quota. Beside it stand what a
+//! run is made of: its settings, the lanes of regions in memory, and the streams that input comes from
 //! and output goes to.
 #![tactic(auto)]
 

@@ -13,8 +13,8 @@ ghost use Rattle.page_buffer.specs.Frames.{Free, Resident, is_resident, bytes_of
 ghost use Rattle.page_buffer.specs.Buffers.{frame_of, free_frames, has_frame_for, with_page};
 ghost use Rattle.script_run.specs.Contents.{pages_in, rows_seen, contents_of, origins_of};
 ghost use Rattle.script_run.specs.Engine.{FitRows, WritesPage};
-ghost use Rattle.script_run.specs.Frames.{IsPage, IsSound, IsIn, AreEmpty, StoresPage, buffer_at, frame_in, is_dirty, page_at, seen_of};
-ghost use Rattle.script_run.specs.Residents.{AreQuotasOf, accessed, after_access, home_of, is_in, keys_at, quota_at, with_room};
+ghost use Rattle.script_run.specs.Frames.{IsPage, IsSound, IsIn, AreEmpty, StoresPage, buffer_at, is_dirty, page_at, seen_of};
+ghost use Rattle.script_run.specs.Residents.{AreQuotasOf, accessed, home_of, is_in, keys_at, quota_at, with_room};
 
 use crate::lanes::Lanes;
 use page_base::{Key, Layout, List, OutOfMemory, RegionShape};
