@@ -138,6 +138,7 @@ impl<S: Store> Stripe<S> {
         ensures fixed { self.new.setup ≡ self.old.setup }
         ensures key { result.start.key ≡ key }
         ensures at { result.start.at ≡ self.old.events }
+        ensures here { IsHere self.old key.region result.start.taken }
         ensures lane { result.lane ≡ result.start.taken }
         ensures copy { IsCopyOf self.old key scratch.new }
         ensures stands { (h : History Entry) (o : ℕ) → StandsFor h self.old → StandsFor ((o, entry.StartWrite key why) ∷ h) self.new }

@@ -1,5 +1,6 @@
-use Rattle.std.proofs.Common.{ap, ◌+◌, ◌∙◌, ◌≡◌}
+use Rattle.std.proofs.Common.{ap, subst, ◌+◌, ◌∙◌, ◌≡◌}
 use Rattle.page_model.specs.Core.{Core, Writing}
+use Rattle.page_model.specs.Readers.{IsHere}
 use Rattle.page_model.specs.Steps as step
 use Rattle.page_model.specs.Steps.{on_region, placed}
 use Rattle.stripe_core.proofs.Writing.{copy_taken}
@@ -14,3 +15,8 @@ returns-clause-stands g c =
 
 pub returns-clause-taken : goal.returns-clause-taken
 returns-clause-taken g c = λ h o s. copy_taken h o c.args.self.now c.args.key c.args.why c.take_copy.new.scratch s c.take_copy.ensures.copy
+
+pub returns-clause-here : goal.returns-clause-here
+returns-clause-here g c =
+    let here = subst (λ (x : Core). IsHere x c.args.key.region c.send_lane.result.start.taken) c.take_copy.ensures.step c.send_lane.ensures.here in
+    record { region = here.region; is = here.is; home = here.home }
