@@ -2,11 +2,12 @@ pub mod Numbers
 pub mod Splits
 pub mod HexSteps
 pub mod RegionLists
-pub mod MapNumbers
+pub mod BuiltLines
 pub mod Lines
 pub mod Hex
 pub mod Names
 pub mod Sound
+pub mod Refused
 pub mod Plain
 pub mod Complete
 pub mod Runnable

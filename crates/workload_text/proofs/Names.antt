@@ -4,9 +4,8 @@ use Rattle.std.specs.List.{list_any, Contains}
 use Rattle.std.specs.Str.{bytes_eq}
 use Rattle.std.proofs.lemmas.Bool.{or_cases, or_parts, both_ways, cases_Bool}
 use Rattle.std.proofs.lemmas.Slice.Eq.{bytes_eq-Decides}
-use Rattle.page_base.specs.Backings.{in_memory, in_file, in_files}
-use Rattle.workload_text.specs.Line.{Line, map_line, script_line, load_line, store_line, prefetch_line, flush_line, unmap_line}
-use Rattle.workload_text.specs.Grammar.{Said, Region, after, is_name, region_from, region_of, name_at, MayReach, Allowed}
+use Rattle.workload_text.specs.Line.{TextLine, says, silent, map_line, script_line, load_line, store_line, prefetch_line, flush_line, unmap_line}
+use Rattle.workload_text.specs.Grammar.{Said, Region, after_text, is_name, region_from, region_of, name_at, MayName, AllowedText}
 
 -- ---- the first region of a name
 
@@ -36,23 +35,22 @@ named_at [] r n h = absurd (omega arith)
 named_at (g ∷ gs) zero n h = n.0
 named_at (g ∷ gs) (suc r) n h = named_at gs r n.1 (omega arith)
 
-pub reach_named : (s : Said) (r off len : ℕ) → AllNamed s.regions → MayReach s r off len → is_name (name_at s.regions r) ≡ true
-reach_named s r off len n h = named_at s.regions r n (region_of-below s (name_at s.regions r) r h.first)
+pub region_named : (s : Said) (r : ℕ) → AllNamed s.regions → MayName s r → is_name (name_at s.regions r) ≡ true
+region_named s r n h = named_at s.regions r n (region_of-below s (name_at s.regions r) r h)
 
 named_more : (gs : List Region) (g : Region) → AllNamed gs → is_name g.name ≡ true → AllNamed (gs ++ g ∷ [])
 named_more [] g n h = (h, tt)
 named_more (x ∷ gs) g n h = (n.0, named_more gs g n.1 h)
 
-pub still_named : (s : Said) (l : Line) → AllNamed s.regions → Allowed s l → AllNamed (after s l).regions
-still_named s (map_line name in_memory size w) n h = named_more s.regions (record { name = name; size = size; writable = w }) n h.named
-still_named s (map_line name (in_file p) size w) n h = absurd h
-still_named s (map_line name (in_files p f) size w) n h = absurd h
-still_named s (script_line name) n h = n
-still_named s (load_line r off len) n h = n
-still_named s (store_line r off bytes) n h = n
-still_named s (prefetch_line r off len) n h = absurd h
-still_named s flush_line n h = absurd h
-still_named s (unmap_line r) n h = absurd h
+pub still_named : (s : Said) (t : TextLine) → AllNamed s.regions → AllowedText s t → AllNamed (after_text s t).regions
+still_named s (silent text) n h = n
+still_named s (says (map_line name backing size w)) n h = named_more s.regions (record { name = name; size = size; writable = w }) n h.named
+still_named s (says (script_line name)) n h = n
+still_named s (says (load_line r off len)) n h = n
+still_named s (says (store_line r off bytes)) n h = n
+still_named s (says (prefetch_line r off len)) n h = n
+still_named s (says flush_line) n h = n
+still_named s (says (unmap_line r)) n h = n
 
 -- ---- names that were used
 

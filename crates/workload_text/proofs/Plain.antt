@@ -1,12 +1,13 @@
 -- No field has a space or a line feed in it, so joined fields and lines are found again.
-use Rattle.std.proofs.Common.{◌≡◌, ℕ, ◌<◌, ◌+◌, ◌^◌, ◌%◌, Bool, true, false, ◌&&◌, inl, inr, not, nat_le, List, [], ◌∷◌, ◌++◌, length, refl, ap, ◌∙◌, arith}
+use Rattle.std.proofs.Common.{◌≡◌, ◌≢◌, ℕ, ◌<◌, ◌+◌, ◌^◌, ◌%◌, Bool, true, false, ◌&&◌, inl, inr, not, nat_le, List, [], ◌∷◌, ◌++◌, length, codes, length-append, refl, ap, subst, ◌∙◌, arith}
 use Rattle.std.specs.List.{All, list_all, join_with_byte, slice_split}
 use Rattle.std.specs.Fmt.{decimal}
-use Rattle.std.proofs.lemmas.Bool.{and_parts, and_from, cases_Bool, and_cases, not-false, not-true, both_ways, eqb-true, le-leb}
+use Rattle.std.specs.Str.{bytes_eq}
+use Rattle.std.proofs.lemmas.Bool.{and_parts, and_from, cases_Bool, and_cases, not-false, not-true, both_ways, eqb-true, le-leb, leb-true, ne_eqb}
 use Rattle.std.proofs.lemmas.Fmt.{decimal_by_steps}
-use Rattle.std.proofs.lemmas.List.Elements.{All-cons, All-nil, All-append}
-use Rattle.std.proofs.lemmas.List.Splits.{slice_split_at, slice_split_none}
-use Rattle.workload_text.specs.Grammar.{is_name, is_name_byte}
+use Rattle.std.proofs.lemmas.List.Elements.{All-cons, All-nil, All-append, All-head, All-tail}
+use Rattle.std.proofs.lemmas.List.Splits.{slice_split_at, slice_split_none, join_with_byte-slice_split, length-slice_split}
+use Rattle.workload_text.specs.Grammar.{is_name, is_name_byte, is_path, is_path_byte, is_component, is_slash}
 use Rattle.workload_text.specs.Reading.{is_space, is_line_feed}
 
 -- neither a space nor a line feed
@@ -97,3 +98,45 @@ line_feeds (f ∷ g ∷ fs) h =
 -- a line ends at its own line feed
 pub slice_split-line : (fs : List (List ℕ)) (behind : List ℕ) → AllPlain fs → slice_split is_line_feed (join_with_byte 32 fs ++ 10 ∷ behind) ≡ join_with_byte 32 fs ∷ slice_split is_line_feed behind
 slice_split-line fs behind h = slice_split_at is_line_feed (join_with_byte 32 fs) 10 behind (line_feeds fs h) refl
+
+-- and so does a line that says nothing
+no_feeds : (text : List ℕ) → All (λ b. b ≢ 10) text → All (λ b. is_line_feed b ≡ false) text
+no_feeds [] h = All-nil (λ b. is_line_feed b ≡ false)
+no_feeds (c ∷ text) h =
+    All-cons (λ b. is_line_feed b ≡ false) c text (ne_eqb c 10 (All-head (λ b. b ≢ 10) c text h)) (no_feeds text (All-tail (λ b. b ≢ 10) c text h))
+
+pub slice_split-silent : (text behind : List ℕ) → All (λ b. b ≢ 10) text → slice_split is_line_feed (text ++ 10 ∷ behind) ≡ text ∷ slice_split is_line_feed behind
+slice_split-silent text behind h = slice_split_at is_line_feed text 10 behind (no_feeds text h) refl
+
+-- ---- paths
+
+plain_component : (c : List ℕ) → is_component c ≡ true → list_all is_path_byte c ≡ true
+plain_component c h =
+    let p = and_parts (nat_le 1 (length c)) (list_all is_path_byte c && (not (bytes_eq c (codes ".")) && not (bytes_eq c (codes "..")))) h in
+    (and_parts (list_all is_path_byte c) (not (bytes_eq c (codes ".")) && not (bytes_eq c (codes ".."))) p.1).0
+
+joined_plain : (parts : List (List ℕ)) → list_all is_component parts ≡ true → Plain (join_with_byte 47 parts)
+joined_plain [] h = refl
+joined_plain (c ∷ []) h = plain_field is_path_byte refl refl c (plain_component c (and_parts (is_component c) true h).0)
+joined_plain (c ∷ d ∷ parts) h =
+    let p = and_parts (is_component c) (list_all is_component (d ∷ parts)) h in
+    list_all-append is_plain c (47 ∷ join_with_byte 47 (d ∷ parts)) (plain_field is_path_byte refl refl c (plain_component c p.0)) (and_from _ _ refl (joined_plain (d ∷ parts) p.1))
+
+pub plain_path : (path : List ℕ) → is_path path ≡ true → Plain path
+plain_path path h =
+    let p = and_parts (nat_le (length path) 255) (list_all is_component (slice_split is_slash path)) h in
+    subst Plain (join_with_byte-slice_split 47 path) (joined_plain (slice_split is_slash path) p.1)
+
+first_component : (parts : List (List ℕ)) → list_all is_component parts ≡ true → 0 < length parts → 0 < length (join_with_byte 47 parts)
+first_component [] h some = absurd (omega arith)
+first_component (c ∷ []) h some =
+    leb-true 1 (length c) (and_parts (nat_le 1 (length c)) (list_all is_path_byte c && (not (bytes_eq c (codes ".")) && not (bytes_eq c (codes "..")))) (and_parts (is_component c) true h).0).0
+first_component (c ∷ d ∷ parts) h some = omega (arith, length-append c (47 ∷ join_with_byte 47 (d ∷ parts)))
+
+-- a path has a byte
+pub path_some : (path : List ℕ) → is_path path ≡ true → 0 < length path
+path_some path h =
+    let p = and_parts (nat_le (length path) 255) (list_all is_component (slice_split is_slash path)) h in
+    let some : 0 < length (slice_split is_slash path) = omega (arith, length-slice_split is_slash path) in
+    let first = first_component (slice_split is_slash path) p.1 some in
+    omega (arith, first, ap (length {A = ℕ}) (join_with_byte-slice_split 47 path))

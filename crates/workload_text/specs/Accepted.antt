@@ -1,9 +1,9 @@
 -- What may be relied on of the lines of an accepted text, line by line and without the state that
 -- the grammar carries: for those who run workloads.
 use Rattle.std.specs.Prelude.{◌≡◌, ℕ, ◌+◌, ◌<◌, ◌≤◌, true, List, [], ◌∷◌, length, All}
-use Rattle.page_base.specs.Backings.{in_memory}
-use Rattle.workload_text.specs.Line.{Line, map_line, script_line, load_line, store_line}
-use Rattle.workload_text.specs.Grammar.{Region, size_at, writable_at}
+use Rattle.page_base.specs.Backings.{Backing}
+use Rattle.workload_text.specs.Line.{Line, map_line, script_line, load_line, store_line, prefetch_line, flush_line, unmap_line}
+use Rattle.workload_text.specs.Grammar.{Region, size_at, writable_at, most_size}
 
 -- the regions of the `map` lines, in order
 abbrev pub regions_of : List Line → List Region
@@ -41,18 +41,25 @@ pub record StoresInside (regions : List Region) (r off : ℕ) (bytes : List ℕ)
   pub some : 1 ≤ length bytes
   pub bytes_all : All (λ b. b < 256) bytes
 
--- a region in memory has 1 to 16777216 bytes
-pub record IsMemorySize (size : ℕ) : Type 0 where
-  pub least : 1 ≤ size
-  pub most : size ≤ 16777216
+-- the range lies in a region that is there
+pub record HintsInside (regions : List Region) (r off len : ℕ) : Type 0 where
+  pub known : r < length regions
+  pub inside : off + len ≤ size_at regions r
 
--- what one line is good for, among these regions; the forms that aren't built yet are none
+-- a region has a byte at least, and no more than may be kept so
+pub record IsSize (backing : Backing) (size : ℕ) : Type 0 where
+  pub least : 1 ≤ size
+  pub most : size ≤ most_size backing
+
+-- what one line is good for, among these regions
 abbrev pub Fits : List Region → Line → Type 0
-Fits regions (map_line name in_memory size writable) = IsMemorySize size
+Fits regions (map_line name backing size writable) = IsSize backing size
 Fits regions (script_line name) = length name ≤ 32
 Fits regions (load_line r off len) = LiesInside regions r off len
 Fits regions (store_line r off bytes) = StoresInside regions r off bytes
-Fits regions l = ⊥
+Fits regions (prefetch_line r off len) = HintsInside regions r off len
+Fits regions flush_line = Unit {0}
+Fits regions (unmap_line r) = r < length regions
 
 abbrev pub AllFit : List Region → List Line → Type 0
 AllFit regions [] = Unit {0}
@@ -61,7 +68,7 @@ AllFit regions (l ∷ ls) = Fits regions l × AllFit regions ls
 -- the lines can be run: every command fits its region, and the limits hold
 pub record IsRunnable (lines : List Line) : Type 0 where
   pub fit : AllFit (regions_of lines) lines
-  pub regions : length (regions_of lines) ≤ 1
+  pub regions : length (regions_of lines) ≤ 64
   pub scripts : script_count lines ≤ 64
   pub commands : command_count lines ≤ 262144
   pub loaded : loaded_bytes lines ≤ 33554432

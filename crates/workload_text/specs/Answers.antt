@@ -1,29 +1,36 @@
 -- What `parse` answers.
-use Rattle.std.specs.Prelude.{ℕ, ◌+◌, List, [], ◌∷◌, Result, Ok, Err, zero, suc}
-use Rattle.workload_text.specs.Line.{Line, map_line}
-use Rattle.workload_text.specs.Grammar.{Spells}
+use Rattle.std.specs.Prelude.{◌≡◌, ℕ, ◌+◌, List, [], ◌∷◌, ◌++◌, Result, Ok, Err}
+use Rattle.workload_text.specs.Line.{TextLine, says, map_line}
+use Rattle.workload_text.specs.Grammar.{IsText}
 use Rattle.workload_text.specs.declared.refusal.TextKind.{TextKind}
 use Rattle.workload_text.specs.declared.refusal.TextFault.{TextFault}
 use Rattle.workload_text.specs.declared.refusal.TextFault.TheVariants.{Refused, OutOfMemory}
+use Rattle.workload_text.specs.declared.refusal.LineFault.{LineFault}
+use Rattle.workload_text.specs.declared.refusal.LineFault.TheVariants as line
 
--- the numbers of the `map` lines, where the first of these lines is line n of its text and each
--- line of the text is one of them
-abbrev pub numbers_of_maps : ℕ → List Line → List ℕ
-numbers_of_maps n [] = []
-numbers_of_maps n (map_line name backing size writable ∷ ls) = n ∷ numbers_of_maps (n + 1) ls
-numbers_of_maps n (l ∷ ls) = numbers_of_maps (n + 1) ls
+-- the number of a `map` line, where this is one and stands on line n
+abbrev pub numbers_of : ℕ → TextLine → List ℕ
+numbers_of n (says (map_line name backing size writable)) = n ∷ []
+numbers_of n t = []
 
--- n, n + 1 and so on, so many numbers
-abbrev pub counted_from : ℕ → ℕ → List ℕ
-counted_from n zero = []
-counted_from n (suc count) = n ∷ counted_from (n + 1) count
+-- the numbers of the `map` lines, where the first of these lines is line n of its text
+abbrev pub map_numbers : ℕ → List TextLine → List ℕ
+map_numbers n [] = []
+map_numbers n (t ∷ ts) = numbers_of n t ++ map_numbers (n + 1) ts
 
--- no lines are spelt by these bytes
-abbrev pub SpellsNothing : List ℕ → Type 0
-SpellsNothing bytes = (lines : List Line) → Spells bytes lines → ⊥
+-- these are the numbers of a text's `map` lines
+pub record AreMapNumbers (bytes numbers : List ℕ) : Type 0 where
+  pub texts : List TextLine
+  pub text : IsText bytes texts
+  pub numbers_are : numbers ≡ map_numbers 1 texts
 
 -- what holds of a refusal, where this is one; want of memory is none
 abbrev pub IfRefused : {W : Type 0} → Result W TextFault → (ℕ → TextKind → Type 0) → Type 0
 IfRefused (Ok w) P = Unit {0}
 IfRefused (Err OutOfMemory) P = Unit {0}
-IfRefused (Err (Refused line kind)) P = P line kind
+IfRefused (Err (Refused n kind)) P = P n kind
+
+-- the fault of a text, by that of its line of this number
+abbrev pub fault_at : ℕ → LineFault → TextFault
+fault_at n (line.Refused kind) = Refused n kind
+fault_at n line.OutOfMemory = OutOfMemory

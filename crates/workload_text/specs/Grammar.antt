@@ -1,12 +1,12 @@
 -- The workload language as a relation: which bytes spell which lines, and which lines are allowed
 -- behind which. It prints; nothing here reads.
-use Rattle.std.specs.Prelude.{◌≡◌, ◌≢◌, ℕ, ◌+◌, ◌<◌, ◌≤◌, ◌&&◌, ◌||◌, ◌==◌, nat_le, Bool, true, false, if◌then◌else◌, List, [], ◌∷◌, ◌++◌, length, codes, Option, Some, None, All, Contains, zero, suc}
+use Rattle.std.specs.Prelude.{◌≡◌, ◌≢◌, ℕ, ◌+◌, ◌<◌, ◌≤◌, ◌&&◌, ◌||◌, ◌==◌, not, nat_le, Bool, true, false, if◌then◌else◌, List, [], ◌∷◌, ◌++◌, length, slice_index, codes, Option, Some, None, All, Contains, zero, suc}
 use Rattle.std.specs.Fmt.{decimal}
 use Rattle.std.specs.Str.{bytes_eq}
-use Rattle.std.specs.List.{list_all, join_with_byte}
+use Rattle.std.specs.List.{list_all, join_with_byte, slice_split}
 use Rattle.hex.specs.Hex.{encode_lower}
-use Rattle.page_base.specs.Backings.{in_memory, in_file, in_files}
-use Rattle.workload_text.specs.Line.{Line, map_line, script_line, load_line, store_line, prefetch_line, flush_line, unmap_line}
+use Rattle.page_base.specs.Backings.{Backing, in_memory, in_file, in_files}
+use Rattle.workload_text.specs.Line.{Line, TextLine, says, silent, map_line, script_line, load_line, store_line, prefetch_line, flush_line, unmap_line}
 
 -- a region, as the lines after its own know it
 pub record Region : Type 0 where
@@ -39,6 +39,21 @@ is_name_byte c = (nat_le 65 c && nat_le c 90) || ((nat_le 97 c && nat_le c 122) 
 -- 1 to 32 such bytes
 abbrev pub is_name : List ℕ → Bool
 is_name name = nat_le 1 (length name) && (nat_le (length name) 32 && list_all is_name_byte name)
+
+-- a byte of a name, `.` or `-`
+abbrev pub is_path_byte : ℕ → Bool
+is_path_byte c = is_name_byte c || (c == 46 || c == 45)
+
+-- such bytes, at least one, and neither `.` nor `..`
+abbrev pub is_component : List ℕ → Bool
+is_component c = nat_le 1 (length c) && (list_all is_path_byte c && (not (bytes_eq c (codes ".")) && not (bytes_eq c (codes ".."))))
+
+abbrev pub is_slash : ℕ → Bool
+is_slash c = c == 47
+
+-- components with one `/` between, at most 255 bytes
+abbrev pub is_path : List ℕ → Bool
+is_path path = nat_le (length path) 255 && list_all is_component (slice_split is_slash path)
 
 abbrev pub name_at : List Region → ℕ → List ℕ
 name_at [] r = []
@@ -83,18 +98,40 @@ fields s (unmap_line r) = codes "unmap" ∷ name_at s.regions r ∷ []
 abbrev pub line_text : Said → Line → List ℕ
 line_text s l = join_with_byte 32 (fields s l)
 
--- the text of lines behind lines that have said s: each with a line feed
-abbrev pub spelled : Said → List Line → List ℕ
-spelled s [] = []
-spelled s (l ∷ ls) = line_text s l ++ 10 ∷ spelled (after s l) ls
+-- a line of a text, without its line feed
+abbrev pub shown : Said → TextLine → List ℕ
+shown s (says l) = line_text s l
+shown s (silent text) = text
 
--- a region in memory may come: the only one, above all scripts
-pub record MayMap (s : Said) (name : List ℕ) (size : ℕ) : Type 0 where
-  pub only : s.regions ≡ []
+abbrev pub after_text : Said → TextLine → Said
+after_text s (says l) = after s l
+after_text s (silent text) = s
+
+-- the text of lines behind lines that have said s: each with a line feed
+abbrev pub spelled : Said → List TextLine → List ℕ
+spelled s [] = []
+spelled s (t ∷ ts) = shown s t ++ 10 ∷ spelled (after_text s t) ts
+
+-- the longest region that may be kept so, in bytes
+abbrev pub most_size : Backing → ℕ
+most_size in_memory = 16777216
+most_size (in_file path) = 1099511627776
+most_size (in_files path file) = 1099511627776
+
+-- files have a path, and files of a folder a length
+abbrev pub IsPlace : Backing → Type 0
+IsPlace in_memory = Unit {0}
+IsPlace (in_file path) = is_path path ≡ true
+IsPlace (in_files path file) = (is_path path ≡ true) × (1 ≤ file) × (file ≤ 1099511627776)
+
+-- a region may come: above all scripts, and at most the 64th
+pub record MayMap (s : Said) (name : List ℕ) (backing : Backing) (size : ℕ) : Type 0 where
   pub above : s.scripts ≡ []
   pub named : is_name name ≡ true
+  pub place : IsPlace backing
   pub least : 1 ≤ size
-  pub most : size ≤ 16777216
+  pub most : size ≤ most_size backing
+  pub few : length s.regions < 64
 
 -- a script may begin: its name is new, and it is at most the 64th
 pub record MayBegin (s : Said) (name : List ℕ) : Type 0 where
@@ -102,40 +139,83 @@ pub record MayBegin (s : Said) (name : List ℕ) : Type 0 where
   pub fresh : ¬ Contains s.scripts name
   pub few : length s.scripts < 64
 
--- a command may reach so many bytes of a region, which it names as the first of its name
-pub record MayReach (s : Said) (r off len : ℕ) : Type 0 where
+-- a command may come: behind a script, and at most the 262144th
+pub record MayCommand (s : Said) : Type 0 where
   pub begun : s.scripts ≢ []
-  pub first : region_of s (name_at s.regions r) ≡ Some r
-  pub place : off ≤ 1099511627776
-  pub short : len ≤ 65536
-  pub inside : off + len ≤ size_at s.regions r
   pub few : s.commands < 262144
+
+-- it may name a region, which it does as the first of its name
+abbrev pub MayName : Said → (region : ℕ) → Type 0
+MayName s r = region_of s (name_at s.regions r) ≡ Some r
+
+-- a command may reach so many bytes of a region
+pub record MayReach (s : Said) (r off len : ℕ) : Type 0 where
+  pub command : MayCommand s
+  pub first : MayName s r
+  pub place : off ≤ 1099511627776
+  pub inside : off + len ≤ size_at s.regions r
 
 pub record MayLoad (s : Said) (r off len : ℕ) : Type 0 where
   pub reach : MayReach s r off len
+  pub short : len ≤ 65536
   pub room : s.loaded + len ≤ 33554432
 
 pub record MayStore (s : Said) (r off : ℕ) (bytes : List ℕ) : Type 0 where
   pub reach : MayReach s r off (length bytes)
   pub some : 1 ≤ length bytes
+  pub short : length bytes ≤ 65536
   pub bytes_all : All (λ b. b < 256) bytes
   pub writable : writable_at s.regions r ≡ true
 
--- what a line may be behind lines that have said s; the forms that aren't built yet are nowhere
--- allowed
+pub record MayPrefetch (s : Said) (r off len : ℕ) : Type 0 where
+  pub reach : MayReach s r off len
+  pub short : len ≤ 1099511627776
+
+pub record MayUnmap (s : Said) (r : ℕ) : Type 0 where
+  pub command : MayCommand s
+  pub first : MayName s r
+
+-- what a line may be behind lines that have said s
 abbrev pub Allowed : Said → Line → Type 0
-Allowed s (map_line name in_memory size writable) = MayMap s name size
+Allowed s (map_line name backing size writable) = MayMap s name backing size
 Allowed s (script_line name) = MayBegin s name
 Allowed s (load_line r off len) = MayLoad s r off len
 Allowed s (store_line r off bytes) = MayStore s r off bytes
-Allowed s l = ⊥
+Allowed s (prefetch_line r off len) = MayPrefetch s r off len
+Allowed s flush_line = MayCommand s
+Allowed s (unmap_line r) = MayUnmap s r
 
-abbrev pub AllAllowed : Said → List Line → Type 0
+-- an empty line, or one that begins with `#`
+abbrev pub is_silent : List ℕ → Bool
+is_silent text = (length text == 0) || (slice_index text 0 == 35)
+
+-- a line that says nothing: it may have any other bytes
+pub record IsSilent (text : List ℕ) : Type 0 where
+  pub marked : is_silent text ≡ true
+  pub one_line : All (λ b. b ≢ 10) text
+
+abbrev pub AllowedText : Said → TextLine → Type 0
+AllowedText s (says l) = Allowed s l
+AllowedText s (silent text) = IsSilent text
+
+abbrev pub AllAllowed : Said → List TextLine → Type 0
 AllAllowed s [] = Unit {0}
-AllAllowed s (l ∷ ls) = Allowed s l × AllAllowed (after s l) ls
+AllAllowed s (t ∷ ts) = AllowedText s t × AllAllowed (after_text s t) ts
 
--- the bytes are the spelling of these lines, and these lines are an accepted workload
-pub record Spells (bytes : List ℕ) (lines : List Line) : Type 0 where
-  pub spelt : bytes ≡ spelled nothing lines
-  pub allowed : AllAllowed nothing lines
+-- the bytes are the text of these lines, which are allowed where they stand
+pub record IsText (bytes : List ℕ) (texts : List TextLine) : Type 0 where
+  pub spelt : bytes ≡ spelled nothing texts
+  pub allowed : AllAllowed nothing texts
   pub short : length bytes ≤ 16777216
+
+-- what the lines of a text say
+abbrev pub lines_in : List TextLine → List Line
+lines_in [] = []
+lines_in (says l ∷ ts) = l ∷ lines_in ts
+lines_in (silent text ∷ ts) = lines_in ts
+
+-- the bytes are the spelling of these lines, with silent lines in between
+pub record Spells (bytes : List ℕ) (lines : List Line) : Type 0 where
+  pub texts : List TextLine
+  pub text : IsText bytes texts
+  pub lines_are : lines_in texts ≡ lines

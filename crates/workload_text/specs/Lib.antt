@@ -2,7 +2,9 @@ pub mod Line
 pub mod View
 pub mod Grammar
 pub mod Reading
+pub mod Refusals
 pub mod Accepted
+pub mod Built
 pub mod Cuts
 pub mod State
 pub mod Answers

@@ -13,3 +13,8 @@ pub data Line : Type 0 where
   prefetch_line : (region off len : ℕ) → Line
   flush_line : Line
   unmap_line : (region : ℕ) → Line
+
+-- one line of a text, without its line feed: it says something, or it says nothing and is only counted
+pub data TextLine : Type 0 where
+  says : (line : Line) → TextLine
+  silent : (text : List ℕ) → TextLine

@@ -1,14 +1,13 @@
--- What a text says, read from the front: the lines cut at line feeds, each cut at its spaces, the
--- tests of a line in the order in which the kinds of refusal come. `parse` is proved equal to it;
--- that it reads exactly what the grammar spells is the law `text_is_read_as_spelt`.
+-- What one line of a text says, read from its fields: the tests stand in the order in which the
+-- kinds of refusal come, so an answer `Err` is the first kind that applies to the line.
 use Rattle.std.specs.Prelude.{ℕ, ◌+◌, ◌*◌, ◌-◌, ◌%◌, ◌&&◌, ◌||◌, ◌==◌, not, nat_le, nat_lt, Bool, true, false, if◌then◌else◌, List, [], ◌∷◌, length, codes, Option, Some, None, Result, Ok, Err}
 use Rattle.std.specs.Fmt.{decimal}
 use Rattle.std.specs.Str.{bytes_eq}
 use Rattle.std.specs.Str.Parse.{digits_value}
 use Rattle.std.specs.List.{list_any, list_all, slice_split}
-use Rattle.page_base.specs.Backings.{in_memory}
-use Rattle.workload_text.specs.Line.{Line, map_line, script_line, load_line, store_line}
-use Rattle.workload_text.specs.Grammar.{Said, nothing, after, is_name, region_of, size_at, writable_at}
+use Rattle.page_base.specs.Backings.{in_memory, in_file, in_files}
+use Rattle.workload_text.specs.Line.{Line, TextLine, says, silent, map_line, script_line, load_line, store_line, prefetch_line, flush_line, unmap_line}
+use Rattle.workload_text.specs.Grammar.{Said, is_name, is_path, is_silent, region_of, size_at, writable_at}
 use Rattle.workload_text.specs.declared.refusal.TextKind.{TextKind}
 use Rattle.workload_text.specs.declared.refusal.TextKind.TheVariants as kind
 
@@ -55,14 +54,71 @@ bytes_of field = if is_hex field then Some (hex_pairs field) else None
 unfoldable pub mode_of : List ℕ → Option Bool
 mode_of field = if bytes_eq field (codes "rw") then Some true else if bytes_eq field (codes "ro") then Some false else None
 
-unfoldable pub read_map : Said → (name size mode : List ℕ) → Result Line TextKind
-read_map s name size mode =
+-- exactly so many fields, and none of them empty
+abbrev pub one_of : List (List ℕ) → Option (List ℕ)
+one_of (a ∷ []) = if is_empty a then None else Some a
+one_of fields = None
+
+abbrev pub two_of : List (List ℕ) → Option (List ℕ × List ℕ)
+two_of (a ∷ b ∷ []) = if is_empty a || is_empty b then None else Some (a, b)
+two_of fields = None
+
+abbrev pub three_of : List (List ℕ) → Option (List ℕ × List ℕ × List ℕ)
+three_of (a ∷ b ∷ c ∷ []) = if is_empty a || (is_empty b || is_empty c) then None else Some (a, b, c)
+three_of fields = None
+
+abbrev pub four_of : List (List ℕ) → Option (List ℕ × List ℕ × List ℕ × List ℕ)
+four_of (a ∷ b ∷ c ∷ d ∷ []) = if is_empty a || (is_empty b || (is_empty c || is_empty d)) then None else Some (a, b, c, d)
+four_of fields = None
+
+-- ---- the lines of regions
+
+-- at most 64 regions
+abbrev pub as_region : Said → Line → Result Line TextKind
+as_region s l = if nat_lt (length s.regions) 64 then Ok l else Err kind.Many
+
+unfoldable pub read_memory : Said → (name size mode : List ℕ) → Result Line TextKind
+read_memory s name size mode =
     if not (is_empty s.scripts) then Err kind.Order
     else if not (is_name name) then Err kind.Name
     else do
       n ← or_refused kind.Number (number_of 1 16777216 size)
       w ← or_refused kind.Mode (mode_of mode)
-      if is_empty s.regions then Ok (map_line name in_memory n w) else Err kind.Unbuilt
+      as_region s (map_line name in_memory n w)
+
+unfoldable pub read_file : Said → (name path size mode : List ℕ) → Result Line TextKind
+read_file s name path size mode =
+    if not (is_empty s.scripts) then Err kind.Order
+    else if not (is_name name) then Err kind.Name
+    else if not (is_path path) then Err kind.Path
+    else do
+      n ← or_refused kind.Number (number_of 1 1099511627776 size)
+      w ← or_refused kind.Mode (mode_of mode)
+      as_region s (map_line name (in_file path) n w)
+
+unfoldable pub read_sparse : Said → (name path size file mode : List ℕ) → Result Line TextKind
+read_sparse s name path size file mode =
+    if not (is_empty s.scripts) then Err kind.Order
+    else if not (is_name name) then Err kind.Name
+    else if not (is_path path) then Err kind.Path
+    else do
+      n ← or_refused kind.Number (number_of 1 1099511627776 size)
+      m ← or_refused kind.Number (number_of 1 1099511627776 file)
+      w ← or_refused kind.Mode (mode_of mode)
+      as_region s (map_line name (in_files path m) n w)
+
+-- the fields behind `map`; an unknown third word is one whatever stands behind it
+unfoldable pub read_map : Said → List (List ℕ) → Result Line TextKind
+read_map s (name ∷ store ∷ rest) =
+    if is_empty name then Err kind.Line
+    else if bytes_eq store (codes "memory") then (or_refused kind.Line (two_of rest) >>= (λ f. read_memory s name f.0 f.1))
+    else if bytes_eq store (codes "file") then (or_refused kind.Line (three_of rest) >>= (λ f. read_file s name f.0 f.1 f.2))
+    else if bytes_eq store (codes "sparse") then (or_refused kind.Line (four_of rest) >>= (λ f. read_sparse s name f.0 f.1 f.2 f.3))
+    else if list_any is_empty (store ∷ rest) then Err kind.Line
+    else Err kind.Kind
+read_map s fields = Err kind.Line
+
+-- ---- scripts and commands
 
 unfoldable pub read_script : Said → (name : List ℕ) → Result Line TextKind
 read_script s name =
@@ -96,31 +152,50 @@ read_store s name off hex =
           else if nat_lt s.commands 262144 then Ok (store_line r o bytes)
           else Err kind.Many
 
-unfoldable pub read_two : Said → (word name : List ℕ) → Result Line TextKind
-read_two s word name =
-    if bytes_eq word (codes "script") then read_script s name
-    else Err kind.Unbuilt
+unfoldable pub read_prefetch : Said → (name off len : List ℕ) → Result Line TextKind
+read_prefetch s name off len =
+    if is_empty s.scripts then Err kind.Order
+    else if not (is_name name) then Err kind.Name
+    else do
+      o ← or_refused kind.Number (number_of 0 1099511627776 off)
+      n ← or_refused kind.Number (number_of 0 1099511627776 len)
+      r ← or_refused kind.Unknown (region_of s name)
+      if not (nat_le (o + n) (size_at s.regions r)) then Err kind.Range
+          else if nat_lt s.commands 262144 then Ok (prefetch_line r o n)
+          else Err kind.Many
 
-unfoldable pub read_four : Said → (word name off third : List ℕ) → Result Line TextKind
-read_four s word name off third =
-    if bytes_eq word (codes "load") then read_load s name off third
-    else if bytes_eq word (codes "store") then read_store s name off third
-    else Err kind.Unbuilt
+unfoldable pub read_flush : Said → Result Line TextKind
+read_flush s =
+    if is_empty s.scripts then Err kind.Order
+    else if nat_lt s.commands 262144 then Ok flush_line
+    else Err kind.Many
 
-unfoldable pub read_five : Said → (word name third size mode : List ℕ) → Result Line TextKind
-read_five s word name third size mode =
-    if bytes_eq word (codes "map") && bytes_eq third (codes "memory") then read_map s name size mode
-    else Err kind.Unbuilt
+unfoldable pub read_unmap : Said → (name : List ℕ) → Result Line TextKind
+read_unmap s name =
+    if is_empty s.scripts then Err kind.Order
+    else if not (is_name name) then Err kind.Name
+    else do
+      r ← or_refused kind.Unknown (region_of s name)
+      if nat_lt s.commands 262144 then Ok (unmap_line r) else Err kind.Many
 
--- what the fields of a line say behind lines that have said s; a line of another form isn't built
+-- ---- one line
+
+-- the first word of a line, and the fields behind it
+unfoldable pub read_word : Said → (word : List ℕ) → List (List ℕ) → Result Line TextKind
+read_word s word rest =
+    if bytes_eq word (codes "load") then (or_refused kind.Line (three_of rest) >>= (λ f. read_load s f.0 f.1 f.2))
+    else if bytes_eq word (codes "store") then (or_refused kind.Line (three_of rest) >>= (λ f. read_store s f.0 f.1 f.2))
+    else if bytes_eq word (codes "prefetch") then (or_refused kind.Line (three_of rest) >>= (λ f. read_prefetch s f.0 f.1 f.2))
+    else if bytes_eq word (codes "script") then (or_refused kind.Line (one_of rest) >>= (λ name. read_script s name))
+    else if bytes_eq word (codes "map") then read_map s rest
+    else if bytes_eq word (codes "unmap") then (or_refused kind.Line (one_of rest) >>= (λ name. read_unmap s name))
+    else if bytes_eq word (codes "flush") then (if is_empty rest then read_flush s else Err kind.Line)
+    else Err kind.Line
+
+-- what the fields of a line say behind lines that have said s
 abbrev pub read_fields : Said → List (List ℕ) → Result Line TextKind
-read_fields s (word ∷ name ∷ []) =
-    if list_any is_empty (word ∷ name ∷ []) then Err kind.Line else read_two s word name
-read_fields s (word ∷ name ∷ off ∷ third ∷ []) =
-    if list_any is_empty (word ∷ name ∷ off ∷ third ∷ []) then Err kind.Line else read_four s word name off third
-read_fields s (word ∷ name ∷ third ∷ size ∷ mode ∷ []) =
-    if list_any is_empty (word ∷ name ∷ third ∷ size ∷ mode ∷ []) then Err kind.Line else read_five s word name third size mode
-read_fields s fields = Err kind.Unbuilt
+read_fields s [] = Err kind.Line
+read_fields s (word ∷ rest) = read_word s word rest
 
 abbrev pub is_space : ℕ → Bool
 is_space b = b == 32
@@ -131,30 +206,6 @@ is_line_feed b = b == 10
 abbrev pub read_line : Said → List ℕ → Result Line TextKind
 read_line s text = read_fields s (slice_split is_space text)
 
--- the line that is refused, counted from 1, and why; line 0 is the text as a whole
-pub record Refusal : Type 0 where
-  pub line : ℕ
-  pub kind : TextKind
-
-abbrev pub before_all : Line → Result (List Line) Refusal → Result (List Line) Refusal
-before_all l (Ok ls) = Ok (l ∷ ls)
-before_all l (Err e) = Err e
-
--- line n, and what is read behind it
-abbrev pub line_then : ℕ → Result Line TextKind → (Line → Result (List Line) Refusal) → Result (List Line) Refusal
-line_then n (Ok l) behind = before_all l (behind l)
-line_then n (Err k) behind = Err (record { line = n; kind = k })
-
--- the lines of a text that was cut at its line feeds, the first of them line n, behind lines that
--- have said s; behind the last line feed stands nothing
-abbrev pub read_lines : ℕ → Said → List (List ℕ) → Result (List Line) Refusal
-read_lines n s [] = Ok []
-read_lines n s (last ∷ []) = if is_empty last then Ok [] else Err (record { line = n; kind = kind.Unended })
-read_lines n s (line ∷ more ∷ lines) =
-    line_then n (read_line s line) (λ l. read_lines (n + 1) (after s l) (more ∷ lines))
-
--- the lines that a text spells, or its first refusal
-unfoldable pub read_text : List ℕ → Result (List Line) Refusal
-read_text bytes =
-    if nat_le (length bytes) 16777216 then read_lines 1 nothing (slice_split is_line_feed bytes)
-    else Err (record { line = 0; kind = kind.Long })
+-- a line of a text, which may say nothing
+unfoldable pub read_text_line : Said → List ℕ → Result TextLine TextKind
+read_text_line s text = if is_silent text then Ok (silent text) else (read_line s text >>= (λ l. Ok (says l)))

@@ -3,10 +3,10 @@
 use Rattle.std.specs.Prelude.{◌≡◌, ◌≤◌, ℕ, List, [], ◌∷◌, ◌++◌, length, map, Option, Some, None, Result, Ok, Err}
 use Rattle.std.specs.List.{flat_map}
 use Rattle.std.specs.Result.{IsOkAnd}
-use Rattle.workload_text.specs.Line.{Line}
+use Rattle.workload_text.specs.Line.{Line, TextLine, says, map_line}
 use Rattle.workload_text.specs.View.{region_line, script_lines}
-use Rattle.workload_text.specs.Grammar.{Region, Said, after}
-use Rattle.workload_text.specs.Reading.{Refusal}
+use Rattle.workload_text.specs.Grammar.{Region, Said, after_text, lines_in}
+use Rattle.workload_text.specs.Refusals.{RefusedAt}
 use Rattle.workload_text.specs.declared.workload.MapLine.{MapLine}
 use Rattle.workload_text.specs.declared.workload.Script.{Script}
 use Rattle.workload_text.specs.declared.reading.Reading.{Reading}
@@ -58,19 +58,31 @@ pub record IsSound (r : Reading) : Type 0 where
   pub few : length r.maps.items ≤ 64
   pub small : r.loaded ≤ 33554432
 
--- the line stands behind those read before it
-pub record Took (old new : Reading) (l : Line) : Type 0 where
-  pub lines : lines_by new ≡ lines_by old ++ l ∷ []
-  pub says : said_by new ≡ after (said_by old) l
+-- the numbers of the `map` lines, with this line too, which is line n
+abbrev pub with_number : List ℕ → ℕ → TextLine → List ℕ
+with_number ns n (says (map_line name backing size writable)) = ns ++ n ∷ []
+with_number ns n t = ns
+
+-- the line, which is line n, stands behind those read before it
+pub record Took (n : ℕ) (old new : Reading) (t : TextLine) : Type 0 where
+  pub lines : lines_by new ≡ lines_by old ++ lines_in (t ∷ [])
+  pub says_so : said_by new ≡ after_text (said_by old) t
+  pub numbers : new.map_lines.items ≡ with_number old.map_lines.items n t
   pub sound : IsSound new
 
 -- what is read as a line is taken, what is refused is refused for its kind; want of memory is free
 abbrev pub Takes : {U : Type 0} → Reading → Reading → Result Line TextKind → Result U LineFault → Type 0
-Takes old new read (Ok u) = IsOkAnd read (λ l. Took old new l)
+Takes old new read (Ok u) = IsOkAnd read (λ l. Took old.line old new (says l))
 Takes old new read (Err OutOfMemory) = Unit {0}
 Takes old new read (Err (Refused kind)) = read ≡ Err kind
 
+-- the same of line n, which may say nothing
+abbrev pub TakesText : {U : Type 0} → ℕ → Reading → Reading → Result TextLine TextKind → Result U LineFault → Type 0
+TakesText n old new read (Ok u) = IsOkAnd read (λ t. Took n old new t)
+TakesText n old new read (Err OutOfMemory) = Unit {0}
+TakesText n old new read (Err (Refused kind)) = read ≡ Err kind
+
 -- these lines, and then what is read
-abbrev pub with_front : List Line → Result (List Line) Refusal → Result (List Line) Refusal
-with_front front (Ok ls) = Ok (front ++ ls)
+abbrev pub with_front : List TextLine → Result (List TextLine) RefusedAt → Result (List TextLine) RefusedAt
+with_front front (Ok ts) = Ok (front ++ ts)
 with_front front (Err e) = Err e

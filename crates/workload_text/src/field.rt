@@ -2,7 +2,7 @@
 ghost use Rattle.std.specs.Prelude.{◌≡◌, ◌<◌, ◌≤◌, ◌*◌, ◌^◌, ℕ, true, length, IfOk, IfSome};
 ghost use Rattle.std.specs.Option.{option_map};
 ghost use Rattle.std.specs.List.{list_all};
-ghost use Rattle.workload_text.specs.Grammar.{is_name, is_name_byte};
+ghost use Rattle.workload_text.specs.Grammar.{is_name, is_name_byte, is_path, is_path_byte, is_component};
 ghost use Rattle.workload_text.specs.Reading.{number_of, bytes_of, mode_of, is_hex, is_hex_digit, hex_digit_value, hex_pairs};
 
 use itoa::Buffer;
@@ -50,6 +50,31 @@ pub fn is_name(field: &[u8]) -> bool
         }
     }
     true
+}
+
+fn is_path_byte(c: u8) -> bool
+    ensures { result ≡ is_path_byte c }
+{
+    is_name_byte(c) || c == 46 || c == 45
+}
+
+fn are_path_bytes(part: &[u8]) -> bool
+    ensures { result ≡ list_all is_path_byte part.now }
+{
+    part.iter().all(|c| is_path_byte(*c))
+}
+
+fn is_component(part: &[u8]) -> bool
+    ensures { result ≡ is_component part.now }
+{
+    1 <= part.len() && are_path_bytes(part) && part != b".".as_slice() && part != b"..".as_slice()
+}
+
+/// Components with one `/` between, at most 255 bytes.
+pub fn is_path(field: &[u8]) -> bool
+    ensures { result ≡ is_path field.now }
+{
+    field.len() <= 255 && field.split(|c| *c == b'/').all(|part| is_component(part))
 }
 
 #[tactic(auto, unfolding(crate::specs::Reading::mode_of))]

@@ -3,6 +3,7 @@
 //! The kinds stand in the order in which the tests of one line come.
 
 ghost use Rattle.std.specs.Prelude.{◌≡◌};
+ghost use Rattle.workload_text.specs.Answers.{fault_at};
 ghost use Rattle.workload_text.specs.declared.refusal.TextFault.TheVariants as text;
 ghost use Rattle.workload_text.specs.declared.refusal.LineFault.TheVariants as line;
 
@@ -14,12 +15,13 @@ pub enum TextKind {
     Long,
     /// The last line has no line feed.
     Unended,
-    /// A field is empty, the first word is unknown, or the number of fields is no form's.
+    /// A field is empty, the first word is unknown, or the number of fields isn't the form's.
     Line,
-    /// The store kind of a `map` line is unknown.
+    /// The third word of a `map` line is no kind of store.
     Kind,
     /// A `map` line behind a `script` line, or a command above all of them.
     Order,
+    /// This kind and the next four: the first misspelt field from the left is one of these.
     Name,
     Path,
     Number,
@@ -35,8 +37,6 @@ pub enum TextKind {
     ReadOnly,
     /// A limit on regions, scripts, commands or loaded bytes is passed.
     Many,
-    /// A form that isn't built yet.
-    Unbuilt,
 }
 
 #[derive(Clone, Copy, Debug)]
@@ -65,5 +65,17 @@ impl From<OutOfMemory> for LineFault {
 
     fn from(_: OutOfMemory) -> LineFault {
         LineFault::OutOfMemory
+    }
+}
+
+impl LineFault {
+    /// The fault of a text that has this line.
+    pub fn at(self, line: u32) -> TextFault
+        ensures { result ≡ fault_at line self }
+    {
+        match self {
+            LineFault::Refused(kind) => TextFault::Refused { line, kind },
+            LineFault::OutOfMemory => TextFault::OutOfMemory,
+        }
     }
 }

@@ -2,6 +2,10 @@
 //!
 //! Contracts see it through `lines_of`, one flat list of lines, so the nesting here may change and
 //! no statement does.
+ghost use Rattle.std.specs.Prelude.{◌≡◌};
+ghost use Rattle.std.specs.List.{list_all};
+ghost use Rattle.workload_text.specs.View.{lines_of, command_line, region_line};
+ghost use Rattle.workload_text.specs.Built.{is_built, is_built_line};
 
 use page_base::{Bytes, List};
 
@@ -55,4 +59,55 @@ pub struct Parsed {
     pub workload: Workload,
     /// The line of each region, counted from 1.
     pub map_lines: List<u32>,
+}
+
+fn is_built_region(map: &MapLine) -> bool
+    ensures { result ≡ is_built_line (region_line map.now) }
+{
+    matches!(&map.kind, StoreKind::Memory)
+}
+
+fn is_built_command(command: &Command) -> bool
+    ensures { result ≡ is_built_line (command_line command.now) }
+{
+    match command {
+        Command::Load {
+            region: _,
+            off: _,
+            len: _,
+        } => true,
+        Command::Store {
+            region: _,
+            off: _,
+            bytes: _,
+        } => true,
+        _ => false,
+    }
+}
+
+fn are_built_regions(maps: &[MapLine]) -> bool
+    ensures { result ≡ list_all (λ m. is_built_line (region_line m)) maps.now }
+{
+    maps.iter().all(|map| is_built_region(map))
+}
+
+fn are_built_commands(commands: &[Command]) -> bool
+    ensures { result ≡ list_all (λ c. is_built_line (command_line c)) commands.now }
+{
+    commands.iter().all(|command| is_built_command(command))
+}
+
+fn are_built_scripts(scripts: &[Script]) -> bool
+    ensures { result ≡ list_all (λ s. list_all (λ c. is_built_line (command_line c)) s.commands.items) scripts.now }
+{
+    scripts
+        .iter()
+        .all(|script| are_built_commands(script.commands.as_slice()))
+}
+
+/// Whether the program can run the workload so far: regions in memory, loads and stores alone.
+pub fn is_built(workload: &Workload) -> bool
+    ensures { result ≡ is_built (lines_of workload.now) }
+{
+    are_built_regions(workload.maps.as_slice()) && are_built_scripts(workload.scripts.as_slice())
 }

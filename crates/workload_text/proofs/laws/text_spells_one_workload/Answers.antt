@@ -1,8 +1,7 @@
-use Rattle.std.proofs.Common.{sym, ◌∙◌}
-use Rattle.workload_text.proofs.Sound.{ok_same}
-use Rattle.workload_text.proofs.Complete.{text_complete}
-use Rattle.workload_text.specs.Reading.{Refusal}
+use Rattle.std.proofs.Common.{sym, ap, ◌∙◌}
+use Rattle.workload_text.specs.Grammar.{lines_in}
+use Rattle.workload_text.proofs.Complete.{one_reading}
 use Rattle.workload_text.proofs.laws.text_spells_one_workload.Goals as goal
 
 pub returns : goal.returns
-returns c = λ bytes some other h k. ok_same {E = Refusal} some other (sym (text_complete bytes some h) ∙ text_complete bytes other k)
+returns c = λ bytes some other h k. sym h.lines_are ∙ ap lines_in (one_reading bytes h.texts k.texts h.text k.text) ∙ k.lines_are

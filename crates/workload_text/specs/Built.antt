@@ -1,0 +1,16 @@
+-- What the program can run so far.
+use Rattle.std.specs.Prelude.{Bool, true, false, List}
+use Rattle.std.specs.List.{list_all}
+use Rattle.page_base.specs.Backings.{in_memory}
+use Rattle.workload_text.specs.Line.{Line, map_line, script_line, load_line, store_line}
+
+-- a region in memory, a script, a load or a store
+abbrev pub is_built_line : Line → Bool
+is_built_line (map_line name in_memory size writable) = true
+is_built_line (script_line name) = true
+is_built_line (load_line r off len) = true
+is_built_line (store_line r off bytes) = true
+is_built_line l = false
+
+abbrev pub is_built : List Line → Bool
+is_built lines = list_all is_built_line lines

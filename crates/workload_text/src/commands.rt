@@ -1,0 +1,195 @@
+//! Reading the lines of commands. A command goes to the script that has begun last.
+ghost use Rattle.std.specs.Prelude.{◌≡◌, ◌<◌, ◌≤◌, ℕ, length, map, IfSome, IsSome, OnOk, ◌+◌, ◌^◌, ◌++◌, [], ◌∷◌};
+ghost use Rattle.workload_text.specs.Grammar.{region_from, size_at, writable_at};
+ghost use Rattle.workload_text.specs.View.{command_line};
+ghost use Rattle.workload_text.specs.Reading.{read_load, read_store, read_prefetch, read_flush, read_unmap};
+ghost use Rattle.workload_text.specs.State.{region, Takes, IsSound, said_by, lines_by};
+
+use crate::field::{hex_bytes, is_name, number};
+use crate::reading::{Reading, push, refused};
+use crate::refusal::{LineFault, TextKind};
+use crate::workload::{Command, MapLine};
+use page_base::OutOfMemory;
+
+fn region_of(maps: &[MapLine], name: &[u8]) -> Option<u16>
+    requires { length maps.now ≤ 64 }
+    ensures found { result ≡ region_from 0 (map region maps.now) name.now }
+    ensures within { IfSome result (λ r. r < length maps.now) }
+{
+    for i in 0..maps.len() {
+        if maps[i].name.as_slice() == name {
+            return Some(i as u16);
+        }
+    }
+    None
+}
+
+fn size_at(maps: &[MapLine], i: usize) -> u64
+    requires { i < length maps.now }
+    ensures { result ≡ size_at (map region maps.now) i }
+{
+    maps[i].length
+}
+
+fn writable_at(maps: &[MapLine], i: usize) -> bool
+    requires { i < length maps.now }
+    ensures { result ≡ writable_at (map region maps.now) i }
+{
+    maps[i].writable
+}
+
+impl Reading {
+    /// Adds a command to the script that has begun; it loads so many bytes.
+    fn add(&mut self, command: Command, loads: u32) -> Result<(), OutOfMemory>
+        requires begun { IsSome self.old.current }
+        requires few { self.old.commands < 262144 }
+        requires room { self.old.loaded + loads < 2 ^ 32 }
+        ensures lines { OnOk result (lines_by self.new ≡ lines_by self.old ++ command_line command ∷ []) }
+        ensures regions { self.new.maps ≡ self.old.maps }
+        ensures numbers { self.new.map_lines ≡ self.old.map_lines }
+        ensures scripts { (said_by self.new).scripts ≡ (said_by self.old).scripts }
+        ensures begun { IsSome self.new.current }
+        ensures commands { OnOk result (self.new.commands ≡ self.old.commands + 1) }
+        ensures loaded { OnOk result (self.new.loaded ≡ self.old.loaded + loads) }
+    {
+        match &mut self.current {
+            None => unreachable!(),
+            Some(script) => {
+                push(&mut script.commands, command)?;
+                self.commands += 1;
+                self.loaded += loads;
+                Ok(())
+            }
+        }
+    }
+
+    #[tactic(auto, unfolding(crate::specs::Reading::read_load))]
+    pub(crate) fn load(&mut self, name: &[u8], off: &[u8], len: &[u8]) -> Result<(), LineFault>
+        requires { IsSound self.old }
+        ensures { Takes self.old self.new (read_load (said_by self.old) name.now off.now len.now) result }
+    {
+        if self.current.is_none() {
+            return refused(TextKind::Order);
+        }
+        if !is_name(name) {
+            return refused(TextKind::Name);
+        }
+        let Some(off) = number(off, 0, 1099511627776) else {
+            return refused(TextKind::Number);
+        };
+        let Some(len) = number(len, 0, 65536) else {
+            return refused(TextKind::Number);
+        };
+        let Some(region) = region_of(self.maps.as_slice(), name) else {
+            return refused(TextKind::Unknown);
+        };
+        if off + len > size_at(self.maps.as_slice(), region as usize) {
+            return refused(TextKind::Range);
+        }
+        if self.commands >= 262144 || u64::from(self.loaded) + len > 33554432 {
+            return refused(TextKind::Many);
+        }
+        let len = len as u32;
+        self.add(Command::Load { region, off, len }, len)?;
+        Ok(())
+    }
+
+    #[tactic(auto, unfolding(crate::specs::Reading::read_store))]
+    pub(crate) fn store(&mut self, name: &[u8], off: &[u8], hex: &[u8]) -> Result<(), LineFault>
+        requires { IsSound self.old }
+        ensures { Takes self.old self.new (read_store (said_by self.old) name.now off.now hex.now) result }
+    {
+        if self.current.is_none() {
+            return refused(TextKind::Order);
+        }
+        if !is_name(name) {
+            return refused(TextKind::Name);
+        }
+        let Some(off) = number(off, 0, 1099511627776) else {
+            return refused(TextKind::Number);
+        };
+        let Some(bytes) = hex_bytes(self.alloc, hex)? else {
+            return refused(TextKind::Hex);
+        };
+        let Some(region) = region_of(self.maps.as_slice(), name) else {
+            return refused(TextKind::Unknown);
+        };
+        if off + bytes.len() as u64 > size_at(self.maps.as_slice(), region as usize) {
+            return refused(TextKind::Range);
+        }
+        if !writable_at(self.maps.as_slice(), region as usize) {
+            return refused(TextKind::ReadOnly);
+        }
+        if self.commands >= 262144 {
+            return refused(TextKind::Many);
+        }
+        self.add(Command::Store { region, off, bytes }, 0)?;
+        Ok(())
+    }
+
+    #[tactic(auto, unfolding(crate::specs::Reading::read_prefetch))]
+    pub(crate) fn prefetch(&mut self, name: &[u8], off: &[u8], len: &[u8]) -> Result<(), LineFault>
+        requires { IsSound self.old }
+        ensures { Takes self.old self.new (read_prefetch (said_by self.old) name.now off.now len.now) result }
+    {
+        if self.current.is_none() {
+            return refused(TextKind::Order);
+        }
+        if !is_name(name) {
+            return refused(TextKind::Name);
+        }
+        let Some(off) = number(off, 0, 1099511627776) else {
+            return refused(TextKind::Number);
+        };
+        let Some(len) = number(len, 0, 1099511627776) else {
+            return refused(TextKind::Number);
+        };
+        let Some(region) = region_of(self.maps.as_slice(), name) else {
+            return refused(TextKind::Unknown);
+        };
+        if off + len > size_at(self.maps.as_slice(), region as usize) {
+            return refused(TextKind::Range);
+        }
+        if self.commands >= 262144 {
+            return refused(TextKind::Many);
+        }
+        self.add(Command::Prefetch { region, off, len }, 0)?;
+        Ok(())
+    }
+
+    #[tactic(auto, unfolding(crate::specs::Reading::read_flush))]
+    pub(crate) fn flush(&mut self) -> Result<(), LineFault>
+        requires { IsSound self.old }
+        ensures { Takes self.old self.new (read_flush (said_by self.old)) result }
+    {
+        if self.current.is_none() {
+            return refused(TextKind::Order);
+        }
+        if self.commands >= 262144 {
+            return refused(TextKind::Many);
+        }
+        self.add(Command::Flush, 0)?;
+        Ok(())
+    }
+
+    #[tactic(auto, unfolding(crate::specs::Reading::read_unmap))]
+    pub(crate) fn unmap(&mut self, name: &[u8]) -> Result<(), LineFault>
+        requires { IsSound self.old }
+        ensures { Takes self.old self.new (read_unmap (said_by self.old) name.now) result }
+    {
+        if self.current.is_none() {
+            return refused(TextKind::Order);
+        }
+        if !is_name(name) {
+            return refused(TextKind::Name);
+        }
+        let Some(region) = region_of(self.maps.as_slice(), name) else {
+            return refused(TextKind::Unknown);
+        };
+        if self.commands >= 262144 {
+            return refused(TextKind::Many);
+        }
+        self.add(Command::Unmap { region }, 0)?;
+        Ok(())
+    }
+}
