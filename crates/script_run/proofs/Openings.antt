@@ -17,6 +17,7 @@ use Rattle.workload_text.specs.Line.{Line, map_line, script_line, load_line, sto
 use Rattle.page_base.specs.Backings.{in_memory, in_file, in_files}
 use Rattle.workload_text.specs.Grammar.{Region, size_at}
 use Rattle.workload_text.specs.Accepted.{AllFit, regions_of}
+use Rattle.workload_text.specs.Built.{is_built}
 use Rattle.script_run.specs.Contents.{rows_in, page_told, pages_in, origins_of, contents_of, no_lane}
 use Rattle.script_run.specs.Fits.{FitLanes, row_origins, pages_of, has_whole_pages}
 use Rattle.script_run.specs.Engine.{FitRows}
@@ -25,7 +26,7 @@ use Rattle.script_run.proofs.Rows.{row_len, lane_is, page_there}
 use Rattle.script_run.proofs.Regions.{regions_count, region_len}
 
 -- the pages of a row of origins
-origins_pages : (n size stripes s : ℕ) (pages : List ℕ) → map (λ (o : Origin). o.pages) (map (λ (e : ℕ × ℕ). memory_origin e.0 e.1 size stripes s) (enumerate_from n pages)) ≡ pages
+pub origins_pages : (n size stripes s : ℕ) (pages : List ℕ) → map (λ (o : Origin). o.pages) (map (λ (e : ℕ × ℕ). memory_origin e.0 e.1 size stripes s) (enumerate_from n pages)) ≡ pages
 origins_pages n size stripes s [] = refl
 origins_pages n size stripes s (p ∷ pages) = ap (λ (ps : List ℕ). p ∷ ps) (origins_pages (n + 1) size stripes s pages)
 
@@ -85,23 +86,23 @@ sizes_whole z [] whole r below = absurd (omega arith)
 sizes_whole z (g ∷ gs) whole zero below = omega (arith, div-add-mod' g.size z, eqb-true (g.size % z) 0 (and_parts _ _ whole).0)
 sizes_whole z (g ∷ gs) whole (suc r) below = sizes_whole z gs (and_parts _ _ whole).1 r (omega arith)
 
--- no region of lines that can be run is large
-pub sizes_small : (gs : List Region) (ls : List Line) → AllFit gs ls → (r : ℕ) → size_at (regions_of ls) r ≤ 16777216
-sizes_small gs [] fit r = omega arith
-sizes_small gs (map_line name in_memory size writable ∷ ls) fit zero = fit.0.most
-sizes_small gs (map_line name in_memory size writable ∷ ls) fit (suc r) = sizes_small gs ls fit.1 r
-sizes_small gs (map_line name (in_file path) size writable ∷ ls) fit r = absurd fit.0
-sizes_small gs (map_line name (in_files path file) size writable ∷ ls) fit r = absurd fit.0
-sizes_small gs (script_line name ∷ ls) fit r = sizes_small gs ls fit.1 r
-sizes_small gs (load_line q off len ∷ ls) fit r = sizes_small gs ls fit.1 r
-sizes_small gs (store_line q off bytes ∷ ls) fit r = sizes_small gs ls fit.1 r
-sizes_small gs (prefetch_line q off len ∷ ls) fit r = absurd fit.0
-sizes_small gs (flush_line ∷ ls) fit r = absurd fit.0
-sizes_small gs (unmap_line q ∷ ls) fit r = absurd fit.0
+-- no region of lines that are built is large
+pub sizes_small : (gs : List Region) (ls : List Line) → is_built ls ≡ true → AllFit gs ls → (r : ℕ) → size_at (regions_of ls) r ≤ 16777216
+sizes_small gs [] built fit r = omega arith
+sizes_small gs (map_line name in_memory size writable ∷ ls) built fit zero = fit.0.most
+sizes_small gs (map_line name in_memory size writable ∷ ls) built fit (suc r) = sizes_small gs ls built fit.1 r
+sizes_small gs (map_line name (in_file path) size writable ∷ ls) built fit r = absurd (cc built)
+sizes_small gs (map_line name (in_files path file) size writable ∷ ls) built fit r = absurd (cc built)
+sizes_small gs (script_line name ∷ ls) built fit r = sizes_small gs ls built fit.1 r
+sizes_small gs (load_line q off len ∷ ls) built fit r = sizes_small gs ls built fit.1 r
+sizes_small gs (store_line q off bytes ∷ ls) built fit r = sizes_small gs ls built fit.1 r
+sizes_small gs (prefetch_line q off len ∷ ls) built fit r = absurd (cc built)
+sizes_small gs (flush_line ∷ ls) built fit r = absurd (cc built)
+sizes_small gs (unmap_line q ∷ ls) built fit r = absurd (cc built)
 
 -- the regions of a workload are what its lanes hold
-pub regions_fit : (layout : Layout) (ls : List Line) (stripes : List (ListSeen MemLane)) → FitLanes layout (regions_of ls) (rows_in stripes) → AllFit (regions_of ls) ls → AreRegions (regions_of ls) (contents_of (rows_in stripes))
-regions_fit layout ls stripes fit all =
+pub regions_fit : (layout : Layout) (ls : List Line) (stripes : List (ListSeen MemLane)) → FitLanes layout (regions_of ls) (rows_in stripes) → is_built ls ≡ true → AllFit (regions_of ls) ls → AreRegions (regions_of ls) (contents_of (rows_in stripes))
+regions_fit layout ls stripes fit built all =
     let rows : List (List LaneSeen) = rows_in stripes in
     let pages : pages_in rows ≡ pages_of layout.page_size (regions_of ls) = pages_fit layout (regions_of ls) stripes fit in
     let fits : FitRows layout.page_size rows = fit_rows layout (regions_of ls) stripes fit in
@@ -112,5 +113,5 @@ regions_fit layout ls stripes fit all =
           region_len layout.page_size (pages_in rows) (page_told rows) fits.whole r (omega (arith, count))
           ∙ ap (λ (ps : List ℕ). get_or ps r 0 * layout.page_size) pages
           ∙ sizes_whole layout.page_size (regions_of ls) fit.whole r below;
-      small = sizes_small (regions_of ls) ls all;
+      small = sizes_small (regions_of ls) ls built all;
     }

@@ -1,13 +1,14 @@
 -- Lines that run one after another.
-use Rattle.std.proofs.Common.{◌≡◌, inl, inr, ℕ, ◌+◌, ◌*◌, ◌<◌, ◌≤◌, List, [], ◌∷◌, ◌++◌, length, take, drop, map, sum, get_or, refl, sym, ap, subst, ◌∙◌, arith, append_assoc, append-nil}
+use Rattle.std.proofs.Common.{◌≡◌, true, inl, inr, ℕ, ◌+◌, ◌*◌, ◌<◌, ◌≤◌, List, [], ◌∷◌, ◌++◌, length, take, drop, map, sum, get_or, refl, sym, ap, subst, ◌∙◌, arith, append_assoc, append-nil}
 use Rattle.std.specs.List.{flat_map}
 use Rattle.std.proofs.lemmas.List.{take-append-drop, drop_more, take_more, get_or-map, get_or_past, length-map}
 use Rattle.std.proofs.lemmas.List.Concat.{flat_map-append}
 use Rattle.std.proofs.lemmas.List.Sums.{sum_by-append}
-use Rattle.std.proofs.lemmas.Bool.{cases_lt}
+use Rattle.std.proofs.lemmas.Bool.{cases_lt, and_parts, and_from}
 use Rattle.workload_text.specs.Line.{Line, map_line, script_line, load_line, store_line, prefetch_line, flush_line, unmap_line}
 use Rattle.workload_text.specs.Grammar.{Region}
 use Rattle.workload_text.specs.Accepted.{AllFit, loaded_bytes, command_count, script_count}
+use Rattle.workload_text.specs.Built.{is_built, is_built_line}
 use Rattle.workload_text.specs.View.{region_line, command_line}
 use Rattle.workload_text.specs.declared.workload.Command.{Command}
 use Rattle.workload_text.specs.declared.workload.MapLine.{MapLine}
@@ -50,6 +51,13 @@ pub AllFit-split : (gs : List Region) (xs ys : List Line) → AllFit gs (xs ++ y
 AllFit-split gs [] ys h = (tt, h)
 AllFit-split gs (x ∷ xs) ys h = let s = AllFit-split gs xs ys h.1 in ((h.0, s.0), s.1)
 
+pub built-split : (xs ys : List Line) → is_built (xs ++ ys) ≡ true → (is_built xs ≡ true) × (is_built ys ≡ true)
+built-split [] ys h = (refl, h)
+built-split (x ∷ xs) ys h =
+    let p = and_parts (is_built_line x) (is_built (xs ++ ys)) h in
+    let s = built-split xs ys p.1 in
+    (and_from (is_built_line x) (is_built xs) p.0 s.0, s.1)
+
 -- ---- lengths of regions
 
 length_at : (b : List (List ℕ)) (r : ℕ) → length (bytes_at b r) ≡ get_or (map length b) r 0
@@ -70,6 +78,7 @@ same_regions gs b now e are = record {
 pub may_first : (xs ys : List Line) (r : Replies) (b : List (List ℕ)) → MayRun (xs ++ ys) r b → MayRun xs r b
 may_first xs ys r b m = record {
   regions = m.regions;
+  built = (built-split xs ys m.built).0;
   fit = (AllFit-split m.regions xs ys m.fit).0;
   sized = m.sized;
   room = omega (arith, m.room, rooms-append xs ys);
@@ -79,6 +88,7 @@ may_first xs ys r b m = record {
 pub may_rest : (xs ys : List Line) (r0 r1 : Replies) (e0 e1 : EngineSeen) → MayRun (xs ++ ys) r0 e0.regions → Ran xs r0 r1 e0 e1 → MayRun ys r1 e1.regions
 may_rest xs ys r0 r1 e0 e1 m ran = record {
   regions = m.regions;
+  built = (built-split xs ys m.built).1;
   fit = (AllFit-split m.regions xs ys m.fit).1;
   sized = same_regions m.regions e0.regions e1.regions ran.lengths m.sized;
   room = omega (arith, m.room, ran.spare, rooms-append xs ys);

@@ -1,8 +1,9 @@
 -- Running some lines: what they need, and what they do to the replies and to the engine.
-use Rattle.std.specs.Prelude.{◌≡◌, ℕ, ◌+◌, ◌<◌, ◌≤◌, List, map, length, sum, ◌++◌}
+use Rattle.std.specs.Prelude.{◌≡◌, ℕ, ◌+◌, ◌<◌, ◌≤◌, List, map, length, sum, ◌++◌, true}
 use Rattle.workload_text.specs.Line.{Line}
 use Rattle.workload_text.specs.Grammar.{Region, size_at}
 use Rattle.workload_text.specs.Accepted.{AllFit, loaded_bytes}
+use Rattle.workload_text.specs.Built.{is_built}
 use Rattle.script_run.specs.Serial.{bytes_at, serial_text, serial_end, serial_loads}
 use Rattle.script_run.specs.Rooms.{rooms}
 use Rattle.script_run.specs.Engine.{EngineSeen}
@@ -14,9 +15,10 @@ pub record AreRegions (regions : List Region) (bytes : List (List ℕ)) : Type 0
   pub sizes : (r : ℕ) → r < length regions → length (bytes_at bytes r) ≡ size_at regions r
   pub small : (r : ℕ) → size_at regions r ≤ 16777216
 
--- the lines may run: their ranges lie inside the regions, and the replies have room for what they answer
+-- the lines may run: they are built, their ranges lie inside the regions, and the replies have room for what they answer
 pub record MayRun (lines : List Line) (replies : Replies) (bytes : List (List ℕ)) : Type 0 where
   pub regions : List Region
+  pub built : is_built lines ≡ true
   pub fit : AllFit regions lines
   pub sized : AreRegions regions bytes
   pub room : rooms lines ≤ replies.text.spare

@@ -1,12 +1,14 @@
 //! The lanes of a workload whose regions are kept in memory, all zeros at first.
-ghost use Rattle.std.specs.Prelude.{◌≡◌, ◌<◌, ◌≤◌, ◌*◌, ◌/◌, ◌%◌, ◌==◌, ◌∷◌, [], true, map, length, replicate, All, IfOk};
+ghost use Rattle.std.specs.Prelude.{◌≡◌, ◌<◌, ◌≤◌, ◌*◌, ◌/◌, ◌%◌, ◌==◌, ◌∷◌, [], true, map, length, replicate, All, IfOk, OnOk};
 ghost use Rattle.std.specs.List.{list_all};
 ghost use Rattle.store_trait.specs.MemLanes.{lane_seen, AreLanesOf};
-ghost use Rattle.workload_text.specs.View.{lines_of};
+ghost use Rattle.workload_text.specs.View.{region, lines_of};
+ghost use Rattle.workload_text.specs.Built.{is_built};
 ghost use Rattle.workload_text.specs.Accepted.{IsRunnable, regions_of};
 ghost use Rattle.script_run.specs.Serial.{zeros_of};
 ghost use Rattle.script_run.specs.Contents.{rows_in, rows_seen, contents_of};
 ghost use Rattle.script_run.specs.Fits.{FitLanes, has_whole_pages, pages_of};
+ghost use Rattle.script_run.specs.Zeros.{AreSmall, PutsLanes, AreZeroRows};
 
 use crate::settings::Settings;
 use page_base::{Bytes, Layout, List, OutOfMemory, RegionShape};
@@ -15,7 +17,7 @@ use store_trait::{LaneSet, MemLane, MemStore};
 use workload_text::{MapLine, Workload};
 
 /// So many stripes without a lane.
-fn empty_rows(alloc: Global, stripes: usize) -> Result<List<List<MemLane>>, OutOfMemory>
+fn empty_rows(alloc: Global, stripes: usize) -> Result<Vec<List<MemLane>>, OutOfMemory>
     ensures { IfOk result (λ rows. rows_in rows.items ≡ replicate stripes []) }
 {
     let mut rows = List::new(alloc);
@@ -23,39 +25,76 @@ fn empty_rows(alloc: Global, stripes: usize) -> Result<List<List<MemLane>>, OutO
     'stripes: while rows.len() < stripes {
         rows.put(List::new(alloc));
     }
-    Ok(rows)
+    Ok(rows.into_vec())
 }
 
-/// A stripe of its own for each lane.
-fn rows_of(alloc: Global, mut lanes: Vec<MemLane>) -> Result<List<List<MemLane>>, OutOfMemory>
-    ensures { IfOk result (λ rows. rows_in rows.items ≡ map (λ lane. lane_seen lane ∷ []) lanes.items) }
+/// Puts each stripe's lane of one more region behind the stripe's lanes.
+fn put_lanes(rows: &mut [List<MemLane>], mut lanes: Vec<MemLane>) -> Result<(), OutOfMemory>
+    requires { length lanes.items ≡ length rows.old }
+    ensures { OnOk result (PutsLanes (map lane_seen lanes.items) (rows_in rows.old) (rows_in rows.new)) }
 {
-    let mut rows = List::new(alloc);
-    rows.reserve(lanes.len())?;
-    'lanes: while !lanes.is_empty() {
-        let mut row = List::new(alloc);
+    'lanes: while let Some(lane) = lanes.pop() {
+        let row = &mut rows[lanes.len()];
         row.reserve(1)?;
-        row.put(lanes.remove(0));
-        rows.put(row);
+        row.put(lane);
     }
-    Ok(rows)
+    Ok(())
 }
 
 /// The lanes of one region of so many zeros.
-fn zero_lanes(alloc: Global, layout: &Layout, bytes: usize) -> Result<List<MemLane>, OutOfMemory>
+fn zero_lanes(
+    alloc: Global,
+    layout: &Layout,
+    region: u16,
+    bytes: usize,
+) -> Result<List<MemLane>, OutOfMemory>
     requires some { 0 < bytes }
     requires whole { bytes ≡ bytes / layout.now.page_size * layout.now.page_size }
     requires small { bytes ≤ 16777216 }
-    ensures { IfOk result (λ lanes. AreLanesOf 0 (bytes / layout.now.page_size) layout.now.page_size layout.now.stripes (replicate bytes 0) lanes.items) }
+    ensures { IfOk result (λ lanes. AreLanesOf region (bytes / layout.now.page_size) layout.now.page_size layout.now.stripes (replicate bytes 0) lanes.items) }
 {
     let Ok(zeros) = vec![in alloc; 0u8; bytes] else {
         return Err(OutOfMemory);
     };
     let store = MemStore::new(Bytes::from_vec(zeros), layout.page_size());
-    match store.split(layout, 0) {
+    match store.split(layout, region) {
         Ok(lanes) => Ok(lanes),
         Err(_) => Err(OutOfMemory),
     }
+}
+
+/// Puts the lanes of the regions into rows without a lane, region by region.
+fn put_regions(
+    alloc: Global,
+    layout: &Layout,
+    maps: &[MapLine],
+    rows: &mut [List<MemLane>],
+) -> Result<(), OutOfMemory>
+    requires few { length maps.now ≤ 64 }
+    requires small { AreSmall layout.now.page_size (map region maps.now) }
+    requires empty { rows_in rows.old ≡ replicate layout.now.stripes [] }
+    ensures { OnOk result (AreZeroRows layout.now.page_size layout.now.stripes (map region maps.now) (rows_in rows.new)) }
+{
+    for i in 0..maps.len() {
+        let lanes = zero_lanes(alloc, layout, i as u16, maps[i].length as usize)?;
+        put_lanes(rows, lanes.into_vec())?;
+    }
+    Ok(())
+}
+
+/// For each stripe its lanes, one for each region.
+fn zero_rows(
+    alloc: Global,
+    layout: &Layout,
+    maps: &[MapLine],
+) -> Result<Vec<List<MemLane>>, OutOfMemory>
+    requires few { length maps.now ≤ 64 }
+    requires small { AreSmall layout.now.page_size (map region maps.now) }
+    ensures { IfOk result (λ rows. AreZeroRows layout.now.page_size layout.now.stripes (map region maps.now) (rows_in rows.items)) }
+{
+    let mut rows = empty_rows(alloc, layout.stripes() as usize)?;
+    put_regions(alloc, layout, maps, rows.as_mut_slice())?;
+    Ok(rows)
 }
 
 /// One lane for each stripe and region of a workload, over zeros.
@@ -65,19 +104,15 @@ pub fn memory_lanes(
     workload: &Workload,
 ) -> Result<LaneSet<MemLane>, OutOfMemory>
     requires runnable { IsRunnable (lines_of workload.now) }
+    requires built { is_built (lines_of workload.now) ≡ true }
     requires whole { has_whole_pages settings.now.layout.page_size (regions_of (lines_of workload.now)) ≡ true }
     ensures fit { IfOk result (λ lanes. FitLanes settings.now.layout (regions_of (lines_of workload.now)) (rows_seen lanes)) }
     ensures zeros { IfOk result (λ lanes. contents_of (rows_seen lanes) ≡ zeros_of (lines_of workload.now)) }
 {
-    let layout = &settings.layout;
-    let maps = workload.maps.as_slice();
-    if maps.is_empty() {
-        let stripes = empty_rows(alloc, layout.stripes() as usize)?;
-        return Ok(LaneSet { stripes });
-    }
-    let lanes = zero_lanes(alloc, layout, maps[0].length as usize)?;
-    let stripes = rows_of(alloc, lanes.into_vec())?;
-    Ok(LaneSet { stripes })
+    let rows = zero_rows(alloc, &settings.layout, workload.maps.as_slice())?;
+    Ok(LaneSet {
+        stripes: List::from_vec(rows),
+    })
 }
 
 fn are_whole(maps: &[MapLine], page_size: u64) -> bool

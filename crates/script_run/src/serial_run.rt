@@ -1,8 +1,9 @@
 //! A serial run: every script of a workload, one after another, in file order.
 //!
 //! All memory is taken before the first line runs, so the only refusal comes at opening, and hands the lanes back.
-ghost use Rattle.std.specs.Prelude.{◌≡◌, ◌+◌, ◌<◌, ◌^◌, ◌∷◌, [], length, sum, IfOk, IfErr};
+ghost use Rattle.std.specs.Prelude.{◌≡◌, ◌+◌, ◌<◌, ◌^◌, ◌∷◌, [], true, length, sum, IfOk, IfErr};
 ghost use Rattle.workload_text.specs.View.{lines_of, script_lines, command_line};
+ghost use Rattle.workload_text.specs.Built.{is_built};
 ghost use Rattle.workload_text.specs.Accepted.{IsRunnable, regions_of, loaded_bytes};
 ghost use Rattle.script_run.specs.Serial.{serial_text, serial_end, serial_loads};
 ghost use Rattle.script_run.specs.Contents.{rows_seen, contents_of, origins_of};
@@ -52,7 +53,7 @@ fn run_command(replies: &mut Replies, engine: &mut Engine, buf: &mut [u8], comma
             store(engine, *region, *off, bytes.as_slice());
             replies.ok();
         }
-        // No accepted text has one of these yet.
+        // None of these is built yet.
         Command::Prefetch {
             region: _,
             off: _,
@@ -133,6 +134,7 @@ pub fn serial(
     lanes: LaneSet<MemLane>,
 ) -> Result<SerialEnd<MemLane>, RunBack<MemLane>>
     requires runnable { IsRunnable (lines_of workload.now) }
+    requires built { is_built (lines_of workload.now) ≡ true }
     requires lanes { FitLanes settings.now.layout (regions_of (lines_of workload.now)) (rows_seen lanes) }
     ensures text { IfOk result (λ e. e.text.items ≡ serial_text (contents_of (rows_seen lanes)) (lines_of workload.now)) }
     ensures contents { IfOk result (λ e. contents_of (rows_seen e.lanes) ≡ serial_end (contents_of (rows_seen lanes)) (lines_of workload.now)) }

@@ -56,6 +56,11 @@ fn workloads_have_their_texts(rt: HostRuntime) {
             "map A memory 128 rw\nscript s\nstore A 62 01020304\nload A 62 4\n",
             "script s\nok\nload 01020304\n",
         ),
+        // Two regions, and a page of the second that is left.
+        (
+            "map A memory 64 rw\nmap B memory 128 rw\nscript s\nstore A 1 aa\nstore B 63 0102\nload A 0 2\nload B 62 3\n",
+            "script s\nok\nok\nload 00aa\nload 000102\n",
+        ),
         // Two scripts one after another, and a load of nothing at the region's end.
         (
             "map A memory 64 rw\nscript s\nstore A 0 01\nscript t\nload A 0 1\nload A 64 0\n",

@@ -1,7 +1,7 @@
 use Rattle.std.proofs.Common.{◌≡◌, ℕ, zero, suc, ◌<◌, List, [], ◌∷◌, length, map, get_or, refl, arith}
 use Rattle.workload_text.specs.declared.workload.MapLine.{MapLine}
 use Rattle.workload_text.specs.Grammar.{size_at, writable_at}
-use Rattle.workload_text.specs.State.{region}
+use Rattle.workload_text.specs.View.{region}
 
 pub size_at-read : (ms : List MapLine) (i : ℕ) (d : MapLine) → i < length ms → (get_or ms i d).length ≡ size_at (map region ms) i
 size_at-read [] i d h = absurd (omega arith)

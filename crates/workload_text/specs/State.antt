@@ -4,8 +4,8 @@ use Rattle.std.specs.Prelude.{◌≡◌, ◌≤◌, ℕ, List, [], ◌∷◌, �
 use Rattle.std.specs.List.{flat_map}
 use Rattle.std.specs.Result.{IsOkAnd}
 use Rattle.workload_text.specs.Line.{Line, TextLine, says, map_line}
-use Rattle.workload_text.specs.View.{region_line, script_lines}
-use Rattle.workload_text.specs.Grammar.{Region, Said, after_text, lines_in}
+use Rattle.workload_text.specs.View.{region, region_line, script_lines}
+use Rattle.workload_text.specs.Grammar.{Said, after_text, lines_in}
 use Rattle.workload_text.specs.Refusals.{RefusedAt}
 use Rattle.workload_text.specs.declared.workload.MapLine.{MapLine}
 use Rattle.workload_text.specs.declared.workload.Script.{Script}
@@ -13,9 +13,6 @@ use Rattle.workload_text.specs.declared.reading.Reading.{Reading}
 use Rattle.workload_text.specs.declared.refusal.TextKind.{TextKind}
 use Rattle.workload_text.specs.declared.refusal.LineFault.{LineFault}
 use Rattle.workload_text.specs.declared.refusal.LineFault.TheVariants.{Refused, OutOfMemory}
-
-abbrev pub region : MapLine → Region
-region m = record { name = m.name.items; size = m.length; writable = m.writable }
 
 abbrev pub script_name : Script → List ℕ
 script_name s = s.name.items

@@ -4,6 +4,7 @@ use Rattle.std.specs.Prelude.{List, ◌∷◌, ◌++◌, map}
 use Rattle.std.specs.List.{flat_map}
 use Rattle.page_base.specs.Backings.{Backing, in_memory, in_file, in_files}
 use Rattle.workload_text.specs.Line.{Line, map_line, script_line, load_line, store_line, prefetch_line, flush_line, unmap_line}
+use Rattle.workload_text.specs.Grammar.{Region}
 use Rattle.workload_text.specs.declared.workload.StoreKind.{StoreKind}
 use Rattle.workload_text.specs.declared.workload.StoreKind.TheVariants.{Memory, File, Sparse}
 use Rattle.workload_text.specs.declared.workload.MapLine.{MapLine}
@@ -19,6 +20,10 @@ backing_of (Sparse path file) = in_files path.items file
 
 abbrev pub region_line : MapLine → Line
 region_line m = map_line m.name.items (backing_of m.kind) m.length m.writable
+
+-- a region, as the lines after its own know it
+abbrev pub region : MapLine → Region
+region m = record { name = m.name.items; size = m.length; writable = m.writable }
 
 abbrev pub command_line : Command → Line
 command_line (Load region off len) = load_line region off len

@@ -1,9 +1,9 @@
 //! Reading the lines of commands. A command goes to the script that has begun last.
 ghost use Rattle.std.specs.Prelude.{◌≡◌, ◌<◌, ◌≤◌, ℕ, length, map, IfSome, IsSome, OnOk, ◌+◌, ◌^◌, ◌++◌, [], ◌∷◌};
 ghost use Rattle.workload_text.specs.Grammar.{region_from, size_at, writable_at};
-ghost use Rattle.workload_text.specs.View.{command_line};
+ghost use Rattle.workload_text.specs.View.{region, command_line};
 ghost use Rattle.workload_text.specs.Reading.{read_load, read_store, read_prefetch, read_flush, read_unmap};
-ghost use Rattle.workload_text.specs.State.{region, Takes, IsSound, said_by, lines_by};
+ghost use Rattle.workload_text.specs.State.{Takes, IsSound, said_by, lines_by};
 
 use crate::field::{hex_bytes, is_name, number};
 use crate::reading::{Reading, push, refused};

@@ -22,8 +22,9 @@ run_scripts-requires-clause-may c =
     let lines = lines_of c.args.workload.now in
     record {
       regions = regions_of lines;
+      built = c.requires.built;
       fit = c.requires.runnable.fit;
-      sized = subst (λ (b : List (List ℕ)). AreRegions (regions_of lines) b) (sym c.in-Ok-new.ensures.regions) (regions_fit c.args.settings.now.layout lines c.args.lanes.stripes.items c.requires.lanes c.requires.runnable.fit);
+      sized = subst (λ (b : List (List ℕ)). AreRegions (regions_of lines) b) (sym c.in-Ok-new.ensures.regions) (regions_fit c.args.settings.now.layout lines c.args.lanes.stripes.items c.requires.lanes c.requires.built c.requires.runnable.fit);
       room = omega (arith, c.room_of.ensures, c.in-Ok.ensures.room);
       few = omega (arith, c.in-Ok.ensures.loaded, c.requires.runnable.loaded);
     }

@@ -1,6 +1,6 @@
 use Rattle.std.proofs.Common.{◌≡◌, map, drop}
 use Rattle.workload_text.specs.Grammar.{region_from}
-use Rattle.workload_text.specs.State.{region}
+use Rattle.workload_text.specs.View.{region}
 use Rattle.workload_text.proofs.commands.region_of.Given as goal
 
 abbrev pub invariant-loop-i : goal.invariant-loop-i
