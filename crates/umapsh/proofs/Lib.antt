@@ -1,2 +1,4 @@
 pub mod Inputs
+pub mod RegionRules
+pub mod Refused
 pub mod Outcomes

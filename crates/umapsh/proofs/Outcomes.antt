@@ -6,19 +6,22 @@ use Rattle.std.proofs.lemmas.Bool.{cases_lt}
 use Rattle.workload_text.specs.Line.{Line}
 use Rattle.script_run.specs.Streams.{AppendsFront}
 use Rattle.umapsh.specs.Status.{refused_words}
-use Rattle.umapsh.specs.Top.{Accepts, AcceptsNothing, answer_of, Says, Causes, ReadAll, ReadStop, RunStop}
+use Rattle.umapsh.specs.Top.{Accepts, answer_of, Says, Causes, ReadAll, ReadStop, RunStop}
+use Rattle.umapsh.specs.Inputs.{refusal_of}
+use Rattle.umapsh.proofs.Refused.{long_refused}
+use Rattle.umapsh.specs.declared.refusal.Refusal.{Refusal}
 use Rattle.umapsh.specs.declared.status.Status.{Status}
 use Rattle.umapsh.specs.declared.status.Status.TheVariants.{Done, Refused, Words, Memory, SinkFault, SourceFault}
 
 -- what is accepted was read to its end
 accepted_end : (input left : Option (List ℕ)) (v : List ℕ) (lines : List Line) → ReadAll input left v → Accepts v lines → IsAtEnd left
-accepted_end input left v lines r a = r.whole a.spelt.short
+accepted_end input left v lines r a = r.whole a.spelt.text.short
 
 accepted_here : (input left : Option (List ℕ)) (v : List ℕ) (lines : List Line) (P : Type 0) → ReadAll input left v → Accepts v lines → P → IfSome input (λ b. (ls : List Line) × Accepts b ls × (ls ≡ lines))
 accepted_here None left v lines P r a p = tt
 accepted_here (Some b) None v lines P r a p = absurd r.taken
 accepted_here (Some b) (Some l) v lines P r a p =
-    let same : v ≡ b = sym (r.taken ∙ ap (λ (t : List ℕ). v ++ t) (r.whole a.spelt.short) ∙ append-nil v) in
+    let same : v ≡ b = sym (r.taken ∙ ap (λ (t : List ℕ). v ++ t) (r.whole a.spelt.text.short) ∙ append-nil v) in
     (lines, subst (λ (t : List ℕ). Accepts t lines) same a, refl)
 
 more_said : (input : Option (List ℕ)) (lines : List Line) (P : List Line → Type 0) → P lines → IfSome input (λ b. (ls : List Line) × Accepts b ls × (ls ≡ lines)) → IfSome input (λ b. (ls : List Line) × Accepts b ls × P ls)
@@ -36,21 +39,21 @@ fault_says input left old new v text faults r a wrote =
     more_said input a.0 (λ (ls : List Line). AppendsFront old new (answer_of ls)) (subst (λ (t : List ℕ). AppendsFront old new t) a.2 wrote) (accepted_here input left v a.0 (Unit {0}) r a.1 tt)
 
 -- what was read is refused, and so is the whole input
-refused_whole : (input left : Option (List ℕ)) (v : List ℕ) → ReadAll input left v → AcceptsNothing v → IfSome input (λ b. AcceptsNothing b × (16777216 < length b → IfSome left (λ l. length b ≡ 16777217 + length l)))
-refused_whole None left v r no_lines = tt
-refused_whole (Some b) None v r no_lines = absurd r.taken
-refused_whole (Some b) (Some l) v r no_lines =
+refused_whole : (input left : Option (List ℕ)) (v : List ℕ) (line : ℕ) (k : Refusal) → ReadAll input left v → refusal_of v ≡ Some (record { line = line; kind = k }) → IfSome input (λ b. (refusal_of b ≡ Some (record { line = line; kind = k })) × (16777216 < length b → IfSome left (λ l. length b ≡ 16777217 + length l)))
+refused_whole None left v line k r refused = tt
+refused_whole (Some b) None v line k r refused = absurd r.taken
+refused_whole (Some b) (Some l) v line k r refused =
     let long : length b ≡ length v + length l = ap length r.taken ∙ length-append v l in
     elim (cases_lt 16777216 (length v)) [
-      | inl past ↦ (λ lines a. absurd (omega (arith, a.spelt.short)), λ _. omega (arith, r.few))
+      | inl past ↦ (long_refused b (omega arith) ∙ sym (long_refused v past) ∙ refused, λ _. omega (arith, r.few))
       | inr short ↦
           let same : v ≡ b = sym (r.taken ∙ ap (λ (t : List ℕ). v ++ t) (r.whole short) ∙ append-nil v) in
-          (subst AcceptsNothing same no_lines, λ past. absurd (omega (arith, ap (length {A = ℕ}) same)))
+          (ap refusal_of (sym same) ∙ refused, λ past. absurd (omega (arith, ap (length {A = ℕ}) same)))
     ]
 
 pub run_says : (status : Status) (input left old : Option (List ℕ)) (v : List ℕ) → ReadAll input left v → RunStop status v → Says status input left old old
 run_says Done input left old v r s = absurd s
-run_says (Refused line k) input left old v r s = (refused_whole input left v r s.0, s.1, s.2, refl)
+run_says (Refused line k) input left old v r s = (refused_whole input left v line k r s, refl)
 run_says (Words fault) input left old v r s = absurd s
 run_says Memory input left old v r s = refl
 run_says (SinkFault faults) input left old v r s = absurd s

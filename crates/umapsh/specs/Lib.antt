@@ -1,3 +1,5 @@
 pub mod Status
 pub mod Words
+pub mod Regions
+pub mod Inputs
 pub mod Top

@@ -3,6 +3,10 @@ use Rattle.std.specs.Prelude.{ℕ, List, [], ◌++◌, codes, Option, Some, None
 use Rattle.std.specs.Fmt.{decimal}
 use Rattle.workload_text.specs.declared.refusal.TextKind.{TextKind}
 use Rattle.workload_text.specs.declared.refusal.TextKind.TheVariants as kind
+use Rattle.umapsh.specs.declared.refusal.RegionKind.{RegionKind}
+use Rattle.umapsh.specs.declared.refusal.RegionKind.TheVariants as rule
+use Rattle.umapsh.specs.declared.refusal.Refusal.{Refusal}
+use Rattle.umapsh.specs.declared.refusal.Refusal.TheVariants as why
 use Rattle.umapsh.specs.declared.words.WordsFault.{WordsFault}
 use Rattle.umapsh.specs.declared.status.Status.{Status}
 use Rattle.umapsh.specs.declared.status.Status.TheVariants.{Done, Refused, Words, Memory, SinkFault, SourceFault}
@@ -31,12 +35,22 @@ kind_text kind.Double = codes "double"
 kind_text kind.Range = codes "range"
 kind_text kind.ReadOnly = codes "readonly"
 kind_text kind.Many = codes "many"
-kind_text kind.Unbuilt = codes "unbuilt"
+
+abbrev pub rule_text : RegionKind → List ℕ
+rule_text rule.SameName = codes "same name"
+rule_text rule.SameStore = codes "same store"
+rule_text rule.BadLength = codes "bad length"
+rule_text rule.TooManyPages = codes "too many pages"
+
+abbrev pub refusal_text : Refusal → List ℕ
+refusal_text (why.Text k) = kind_text k
+refusal_text (why.Region k) = rule_text k
+refusal_text why.Unbuilt = codes "unbuilt"
 
 -- with its line feed; a run that went well says nothing
 abbrev pub status_text : Status → List ℕ
 status_text Done = []
-status_text (Refused line k) = codes "umapsh: line " ++ (decimal line ++ (codes ": " ++ (kind_text k ++ codes "\n")))
+status_text (Refused line k) = codes "umapsh: line " ++ (decimal line ++ (codes ": " ++ (refusal_text k ++ codes "\n")))
 status_text (Words fault) = codes "umapsh: words refused\n"
 status_text Memory = codes "umapsh: out of memory\n"
 status_text (SinkFault faults) = codes "umapsh: output failed\n"

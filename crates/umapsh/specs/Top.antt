@@ -1,25 +1,22 @@
 -- What the command answers, by its input and by what it read and wrote.
-use Rattle.std.specs.Prelude.{◌≡◌, ℕ, ◌+◌, ◌<◌, ◌≤◌, true, List, [], length, Option, Some, None, Result, Ok, Err, IfSome}
+use Rattle.std.specs.Prelude.{◌≡◌, ℕ, ◌+◌, ◌<◌, ◌≤◌, List, [], length, Option, Some, None, Result, Ok, Err, IfSome}
 use Rattle.std.specs.Io.KnownBytes.{Appends, Consumes, IsAtEnd}
 use Rattle.page_base.specs.Lanes.{Rose}
 use Rattle.workload_text.specs.Line.{Line}
 use Rattle.workload_text.specs.Grammar.{Spells}
-use Rattle.workload_text.specs.Accepted.{regions_of}
-use Rattle.workload_text.specs.declared.refusal.TextKind.TheVariants as kind
 use Rattle.script_run.specs.Serial.{zeros_of, serial_text}
 use Rattle.script_run.specs.Streams.{AppendsFront}
-use Rattle.script_run.specs.Fits.{has_whole_pages}
+use Rattle.umapsh.specs.Inputs.{refusal_of}
+use Rattle.workload_text.specs.declared.refusal.TextFault.{TextFault}
+use Rattle.workload_text.specs.declared.refusal.TextFault.TheVariants as text
+use Rattle.umapsh.specs.declared.refusal.Refusal.TheVariants as why
 use Rattle.umapsh.specs.declared.status.Status.{Status}
 use Rattle.umapsh.specs.declared.status.Status.TheVariants.{Done, Refused, Words, Memory, SinkFault, SourceFault}
 
--- the bytes are the text of this workload, whose regions are whole pages
+-- the bytes are the text of this workload, and it isn't refused
 pub record Accepts (bytes : List ℕ) (lines : List Line) : Type 0 where
   pub spelt : Spells bytes lines
-  pub whole : has_whole_pages 4096 (regions_of lines) ≡ true
-
--- the bytes are the text of no such workload
-abbrev pub AcceptsNothing : List ℕ → Type 0
-AcceptsNothing bytes = (lines : List Line) → Accepts bytes lines → ⊥
+  pub unrefused : refusal_of bytes ≡ None
 
 -- the serial text of the workload that the bytes spell
 abbrev pub answer_of : List Line → List ℕ
@@ -31,7 +28,7 @@ abbrev pub Says : Status → (input left : Option (List ℕ)) → (old new : Opt
 Says Done input left old new =
     IfSome input (λ b. (lines : List Line) × Accepts b lines × Appends old new (answer_of lines)) × IsAtEnd left
 Says (Refused line k) input left old new =
-    IfSome input (λ b. AcceptsNothing b × (16777216 < length b → IfSome left (λ l. length b ≡ 16777217 + length l))) × (line ≡ 0) × (k ≡ kind.Unbuilt) × (new ≡ old)
+    IfSome input (λ b. (refusal_of b ≡ Some (record { line = line; kind = k })) × (16777216 < length b → IfSome left (λ l. length b ≡ 16777217 + length l))) × (new ≡ old)
 Says (Words fault) input left old new = (left ≡ input) × (new ≡ old)
 Says Memory input left old new = new ≡ old
 Says (SinkFault faults) input left old new =
@@ -66,10 +63,15 @@ ReadStop (Refused line k) before now = ⊥
 ReadStop (Words fault) before now = ⊥
 ReadStop (SinkFault faults) before now = ⊥
 
+-- the status of a fault of the text
+abbrev pub text_status : TextFault → Status
+text_status (text.Refused line k) = Refused line (why.Text k)
+text_status text.OutOfMemory = Memory
+
 -- why running a text stopped
 abbrev pub RunStop : Status → List ℕ → Type 0
 RunStop Memory bytes = Unit {0}
-RunStop (Refused line k) bytes = AcceptsNothing bytes × (line ≡ 0) × (k ≡ kind.Unbuilt)
+RunStop (Refused line k) bytes = refusal_of bytes ≡ Some (record { line = line; kind = k })
 RunStop Done bytes = ⊥
 RunStop (Words fault) bytes = ⊥
 RunStop (SinkFault faults) bytes = ⊥

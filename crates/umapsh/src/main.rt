@@ -4,6 +4,8 @@
 //! a status for whatever goes wrong, each with its cause. `main` hands over the real words and streams.
 #![tactic(auto)]
 
+mod refusal;
+mod regions;
 mod status;
 #[cfg(test)]
 mod tests;

@@ -1,7 +1,8 @@
 //! What the command ends with.
 ghost use Rattle.std.specs.Prelude.{◌≡◌, ◌+◌, ◌≤◌, ◌++◌, length, take};
-ghost use Rattle.umapsh.specs.Status.{status_code, status_text, kind_text};
+ghost use Rattle.umapsh.specs.Status.{status_code, status_text, kind_text, rule_text, refusal_text};
 
+use crate::refusal::{Refusal, RegionKind};
 use crate::words::WordsFault;
 use workload_text::TextKind;
 
@@ -10,7 +11,7 @@ pub enum Status {
     /// Every line ran, and every reply was written.
     Done,
     /// The input is no workload that can be run; lines are counted from 1, and line 0 is the text as a whole.
-    Refused { line: u32, kind: TextKind },
+    Refused { line: u32, kind: Refusal },
     Words(WordsFault),
     /// There was no memory to begin with.
     Memory,
@@ -50,7 +51,29 @@ fn kind_name(kind: TextKind) -> &'static [u8]
         TextKind::Range => b"range",
         TextKind::ReadOnly => b"readonly",
         TextKind::Many => b"many",
-        TextKind::Unbuilt => b"unbuilt",
+    }
+}
+
+fn rule_name(kind: RegionKind) -> &'static [u8]
+    ensures text { result.now ≡ rule_text kind }
+    ensures short { length result.now ≤ 14 }
+{
+    match kind {
+        RegionKind::SameName => b"same name",
+        RegionKind::SameStore => b"same store",
+        RegionKind::BadLength => b"bad length",
+        RegionKind::TooManyPages => b"too many pages",
+    }
+}
+
+fn refusal_name(kind: Refusal) -> &'static [u8]
+    ensures text { result.now ≡ refusal_text kind }
+    ensures short { length result.now ≤ 14 }
+{
+    match kind {
+        Refusal::Text(kind) => kind_name(kind),
+        Refusal::Region(kind) => rule_name(kind),
+        Refusal::Unbuilt => b"unbuilt",
     }
 }
 
@@ -81,7 +104,7 @@ impl Status {
                 let at = put(out, 0, b"umapsh: line ");
                 let at = put(out, at, buffer.format(*line).as_bytes());
                 let at = put(out, at, b": ");
-                let at = put(out, at, kind_name(*kind));
+                let at = put(out, at, refusal_name(*kind));
                 put(out, at, b"\n")
             }
             Status::Words(_) => put(out, 0, b"umapsh: words refused\n"),

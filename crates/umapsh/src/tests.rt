@@ -1,4 +1,5 @@
 //! The command on streams in memory: each status once, and what was written.
+use crate::refusal::{Refusal, RegionKind};
 use crate::status::Status;
 use crate::top::top_serial;
 use crate::words::{Call, WordsFault};
@@ -7,14 +8,9 @@ use script_run::{FailingWrite, MemSink, MemSource};
 use std::test::Fail;
 use workload_text::TextKind;
 
-const RUN: &str = "map A memory 4096 rw\nscript s\nstore A 0 48656c6c6f\nload A 0 5\n";
+const RUN: &str = "map A memory 4096 rw\n# B stays as it is\nmap B memory 8192 ro\nscript s\nstore A 0 48656c6c6f\nload A 0 5\nload B 8191 1\n";
 
-const REPLIES: &[u8] = b"script s\nok\nload 48656c6c6f\n";
-
-const UNBUILT: Status = Status::Refused {
-    line: 0,
-    kind: TextKind::Unbuilt,
-};
+const REPLIES: &[u8] = b"script s\nok\nload 48656c6c6f\nload 00\n";
 
 fn texts(rt: &HostRuntime, words: &[&str]) -> Result<Texts, Fail> {
     let mut texts = Texts::new(rt.alloc());
@@ -57,7 +53,7 @@ fn an_accepted_input_is_answered_whole(rt: HostRuntime) -> Result<(), Fail> {
 }
 
 #[test]
-fn other_words_and_inputs_are_refused(rt: HostRuntime) -> Result<(), Fail> {
+fn other_words_are_refused(rt: HostRuntime) -> Result<(), Fail> {
     for (words, fault) in [
         ([].as_slice(), WordsFault::NoCommand),
         (["run"].as_slice(), WordsFault::UnknownCommand),
@@ -67,14 +63,60 @@ fn other_words_and_inputs_are_refused(rt: HostRuntime) -> Result<(), Fail> {
         assert_eq!(rt; status, Status::Words(fault));
         assert!(rt; written.is_empty());
     }
-    for input in [
-        "map A memory 64 rw\n",
-        "load A 0 1\n",
-        "map A memory 4096 ro\nscript s\nstore A 0 01\n",
-        "map A memory 4096 rw\nscript s\nload A 4096 1\n",
-    ] {
+    Ok(())
+}
+
+#[test]
+fn refused_inputs_are_named_by_line_and_kind(rt: HostRuntime) -> Result<(), Fail> {
+    let rows = [
+        ("load A 0 1\n", 1, Refusal::Text(TextKind::Order)),
+        (
+            "map A memory 4096 ro\nscript s\nstore A 0 01\n",
+            3,
+            Refusal::Text(TextKind::ReadOnly),
+        ),
+        // The text comes before the regions.
+        (
+            "map A memory 64 rw\nmap A memory 64 rw\nflush",
+            3,
+            Refusal::Text(TextKind::Unended),
+        ),
+        // Each rule before the one behind it, and lines that say nothing counted.
+        (
+            "# one\n\nmap A file f 64 rw\nmap A file f 64 rw\n",
+            3,
+            Refusal::Region(RegionKind::BadLength),
+        ),
+        (
+            "map A file f 4096 rw\n\nmap A file f 64 rw\n",
+            3,
+            Refusal::Region(RegionKind::SameName),
+        ),
+        (
+            "map A sparse d 4096 4096 rw\nmap B file d/f 64 rw\n",
+            2,
+            Refusal::Region(RegionKind::SameStore),
+        ),
+        (
+            "map A sparse d 4296015872 1048576 rw\n",
+            1,
+            Refusal::Region(RegionKind::BadLength),
+        ),
+        (
+            "map A file a 4294967296 rw\nmap B memory 4096 rw\nscript s\nflush\n",
+            2,
+            Refusal::Region(RegionKind::TooManyPages),
+        ),
+        (
+            "map A memory 4096 rw\nscript s\nflush\n",
+            0,
+            Refusal::Unbuilt,
+        ),
+        ("map A file f 4096 rw\n", 0, Refusal::Unbuilt),
+    ];
+    for (input, line, kind) in rows {
         let (status, written) = answer(&rt, &["serial"], input, &[], &[])?;
-        assert_eq!(rt; status, UNBUILT, "{input}");
+        assert_eq!(rt; status, Status::Refused { line, kind }, "{input}");
         assert!(rt; written.is_empty());
     }
     Ok(())
@@ -99,7 +141,30 @@ fn failing_streams_are_told(rt: HostRuntime) -> Result<(), Fail> {
 fn statuses_have_their_texts(rt: HostRuntime) {
     for (status, code, wanted) in [
         (Status::Done, 0, ""),
-        (UNBUILT, 2, "umapsh: line 0: unbuilt\n"),
+        (
+            Status::Refused {
+                line: 0,
+                kind: Refusal::Unbuilt,
+            },
+            2,
+            "umapsh: line 0: unbuilt\n",
+        ),
+        (
+            Status::Refused {
+                line: 4294967295,
+                kind: Refusal::Region(RegionKind::TooManyPages),
+            },
+            2,
+            "umapsh: line 4294967295: too many pages\n",
+        ),
+        (
+            Status::Refused {
+                line: 3,
+                kind: Refusal::Text(TextKind::ReadOnly),
+            },
+            2,
+            "umapsh: line 3: readonly\n",
+        ),
         (
             Status::Words(WordsFault::NoCommand),
             3,

@@ -1,18 +1,24 @@
 //! The top call: from input and words to output and status.
 //!
 //! What comes first decides: the words, then the source, then the text, then memory, then the sink.
-ghost use Rattle.std.specs.Prelude.{◌≡◌, ◌<◌, List, length, vec_len, IfOk, IfErr};
+ghost use Rattle.std.specs.Prelude.{◌≡◌, ◌<◌, true, List, length, vec_len, IfOk, IfErr};
 ghost use Rattle.workload_text.specs.Line.{Line};
+ghost use Rattle.workload_text.specs.View.{lines_of};
+ghost use Rattle.workload_text.specs.Accepted.{IsRunnable, regions_of};
+ghost use Rattle.workload_text.specs.Built.{is_built};
+ghost use Rattle.script_run.specs.Fits.{has_whole_pages};
 ghost use Rattle.umapsh.specs.Status.{refused_words};
 ghost use Rattle.umapsh.specs.Words.{words_fault};
-ghost use Rattle.umapsh.specs.Top.{Accepts, answer_of, Says, Causes, ReadAll, ReadsFew, ReadStop, RunStop};
+ghost use Rattle.umapsh.specs.Top.{Accepts, answer_of, text_status, Says, Causes, ReadAll, ReadsFew, ReadStop, RunStop};
 
+use crate::refusal::Refusal;
+use crate::regions::region_refusal;
 use crate::status::Status;
 use crate::words::{self, Call};
-use page_base::Bytes;
-use script_run::{Settings, Sink, Source, memory_lanes, pages_are_whole, serial};
+use page_base::{Bytes, Layout, OutOfMemory};
+use script_run::{Settings, Sink, Source, memory_lanes, serial};
 use std::alloc::{AllocError, Global};
-use workload_text::{TextFault, TextKind, laws, parse};
+use workload_text::{TextFault, Workload, is_built, parse};
 
 /// One byte more than a text may have.
 const MOST_READ: usize = 16_777_217;
@@ -68,25 +74,63 @@ fn read_all<S: Source>(alloc: Global, source: &mut S) -> Result<Vec<u8>, Status>
     }
 }
 
+fn text_status(fault: TextFault) -> Status
+    ensures { result ≡ text_status fault }
+{
+    match fault {
+        TextFault::Refused { line, kind } => Status::Refused {
+            line,
+            kind: Refusal::Text(kind),
+        },
+        TextFault::OutOfMemory => Status::Memory,
+    }
+}
+
+/// The workload of an input, if it isn't refused: by its text, by the rules on regions, or because it isn't built yet.
+fn accept(alloc: Global, layout: Layout, bytes: &[u8]) -> Result<Workload, Status>
+    requires page_size { layout.page_size ≡ 4096 }
+    ensures accepted { IfOk result (λ w. Accepts bytes.now (lines_of w)) }
+    ensures runnable { IfOk result (λ w. IsRunnable (lines_of w)) }
+    ensures built { IfOk result (λ w. is_built (lines_of w) ≡ true) }
+    ensures whole { IfOk result (λ w. has_whole_pages layout.page_size (regions_of (lines_of w)) ≡ true) }
+    ensures stop { IfErr result (λ e. RunStop e bytes.now) }
+{
+    let parsed = match parse(alloc, bytes) {
+        Ok(parsed) => parsed,
+        Err(fault) => return Err(text_status(fault)),
+    };
+    let workload = parsed.workload;
+    let maps = workload.maps.as_slice();
+    let lines = parsed.map_lines.as_slice();
+    match region_refusal(alloc, layout.page_size(), maps, lines) {
+        Ok(None) => {}
+        Ok(Some(refusal)) => {
+            return Err(Status::Refused {
+                line: refusal.line,
+                kind: Refusal::Region(refusal.kind),
+            });
+        }
+        Err(OutOfMemory) => return Err(Status::Memory),
+    }
+    if !is_built(&workload) {
+        return Err(Status::Refused {
+            line: 0,
+            kind: Refusal::Unbuilt,
+        });
+    }
+    Ok(workload)
+}
+
 /// The replies to a text. The settings are the defaults.
 fn run(alloc: Global, bytes: &[u8]) -> Result<Bytes, Status>
     ensures ok { IfOk result (λ text. (lines : List Line) × Accepts bytes.now lines × (text.items ≡ answer_of lines)) }
     ensures stop { IfErr result (λ e. RunStop e bytes.now) }
 {
-    let workload = match parse(alloc, bytes) {
-        Ok(parsed) => parsed.workload,
-        Err(TextFault::Refused { line, kind }) => return Err(Status::Refused { line, kind }),
-        Err(TextFault::OutOfMemory) => return Err(Status::Memory),
-    };
     let settings = Settings::defaults();
-    if !pages_are_whole(&workload, settings.layout.page_size()) {
-        // So no other workload that the text could spell has whole pages either.
-        laws::text_spells_one_workload();
-        return Err(Status::Refused {
-            line: 0,
-            kind: TextKind::Unbuilt,
-        });
-    }
+    let workload = match accept(alloc, settings.layout, bytes) {
+        Ok(workload) => workload,
+        Err(status) => return Err(status),
+    };
     let Ok(lanes) = memory_lanes(alloc, &settings, &workload) else {
         return Err(Status::Memory);
     };

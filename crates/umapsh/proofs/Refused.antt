@@ -1,0 +1,81 @@
+-- What an input is refused for, from what was read of it.
+use Rattle.std.proofs.Common.{◌≡◌, ℕ, ◌<◌, true, false, List, [], length, map, Option, Some, None, Result, Ok, Err, refl, sym, ap, ◌∙◌}
+use Rattle.std.proofs.lemmas.Bool.{lt-leb}
+use Rattle.workload_text.specs.Line.{Line, TextLine}
+use Rattle.workload_text.specs.Grammar.{IsText, Spells, lines_in}
+use Rattle.workload_text.specs.Refusals.{RefusedAt, refusal, read_text}
+use Rattle.workload_text.specs.Answers.{AreMapNumbers, IfRefused, map_numbers}
+use Rattle.workload_text.specs.Built.{is_built}
+use Rattle.workload_text.specs.View.{lines_of}
+use Rattle.workload_text.specs.declared.workload.MapLine.{MapLine}
+use Rattle.workload_text.specs.declared.workload.Workload.{Workload}
+use Rattle.workload_text.specs.declared.refusal.TextKind.TheVariants as kind
+use Rattle.workload_text.specs.declared.refusal.TextFault.{TextFault}
+use Rattle.workload_text.specs.declared.refusal.TextFault.TheVariants as text
+use Rattle.workload_text.proofs.Complete.{text_complete, one_reading}
+use Rattle.workload_text.proofs.Refused.{refused_at}
+use Rattle.region_table.specs.Regions.{RegionSeen}
+use Rattle.umapsh.specs.Regions.{region_seen, regions_seen, region_refusal}
+use Rattle.umapsh.specs.Inputs.{refusal_of, refused_behind, refused_text}
+use Rattle.umapsh.specs.Top.{RunStop, text_status}
+use Rattle.umapsh.specs.declared.refusal.RegionRefusal.{RegionRefusal}
+use Rattle.umapsh.specs.declared.refusal.Refusal.TheVariants as why
+use Rattle.umapsh.proofs.RegionRules.{seen_are, same_count}
+
+-- ---- the text is refused
+
+pub text_refused : (bytes : List ℕ) (r : RefusedAt) → refusal bytes ≡ Some r → refusal_of bytes ≡ Some (record { line = r.line; kind = why.Text r.kind })
+unfolding refusal_of
+text_refused bytes r h = ap refused_text (refused_at bytes r h)
+
+pub text_stops : (W : Type 0) (fault : TextFault) (bytes : List ℕ) → IfRefused {W = W} (Err fault) (λ n k. refusal bytes ≡ Some (record { line = n; kind = k })) → RunStop (text_status fault) bytes
+text_stops W (text.Refused n k) bytes h = text_refused bytes (record { line = n; kind = k }) h
+text_stops W text.OutOfMemory bytes h = tt
+
+-- a long input is refused for its length, however long it is
+pub long_refused : (bytes : List ℕ) → 16777216 < length bytes → refusal_of bytes ≡ Some (record { line = 0; kind = why.Text kind.Long })
+unfolding refusal_of read_text
+long_refused bytes long = rw (lt-leb (length bytes) 16777216 long) refl
+
+-- what the regions of a workload are refused for, by the call that was made
+pub same_call : (z : ℕ) (ms slice : List MapLine) (ns lines : List ℕ) (o : Option RegionRefusal) → z ≡ 4096 → slice ≡ ms → lines ≡ ns → o ≡ region_refusal z [] (map region_seen slice) lines → region_refusal 4096 [] (map region_seen ms) ns ≡ o
+same_call z ms slice ns lines o e f g h =
+    sym (h ∙ ap (λ (k : ℕ). region_refusal k [] (map region_seen slice) lines) e
+    ∙ ap (λ (xs : List MapLine). region_refusal 4096 [] (map region_seen xs) lines) f
+    ∙ ap (λ (xs : List ℕ). region_refusal 4096 [] (map region_seen ms) xs) g)
+
+-- ---- the text is accepted
+
+module _ (bytes : List ℕ) (w : Workload) (numbers : List ℕ) (spelt : Spells bytes (lines_of w)) (numbered : AreMapNumbers bytes numbers) where
+  same_texts : numbered.texts ≡ spelt.texts
+  same_texts = one_reading bytes numbered.texts spelt.texts numbered.text spelt.text
+
+  numbers_are : map_numbers 1 spelt.texts ≡ numbers
+  numbers_are = ap (map_numbers 1) (sym same_texts) ∙ sym numbered.numbers_are
+
+  regions_are : regions_seen (lines_in spelt.texts) ≡ map region_seen w.maps.items
+  regions_are = ap regions_seen spelt.lines_are ∙ seen_are w
+
+  -- each region has its line
+  pub as_many : length numbers ≡ length (map region_seen w.maps.items)
+  as_many = ap length (sym numbers_are) ∙ same_count 1 spelt.texts ∙ ap length regions_are
+
+  pub refusal_is : refusal_of bytes ≡ refused_behind (region_refusal 4096 [] (map region_seen w.maps.items) numbers) (is_built (lines_of w))
+  unfolding refusal_of
+  refusal_is =
+      ap refused_text (text_complete bytes spelt.texts spelt.text)
+      ∙ ap (λ (rs : List RegionSeen). refused_behind (region_refusal 4096 [] rs (map_numbers 1 spelt.texts)) (is_built (lines_in spelt.texts))) regions_are
+      ∙ ap (λ (ns : List ℕ). refused_behind (region_refusal 4096 [] (map region_seen w.maps.items) ns) (is_built (lines_in spelt.texts))) numbers_are
+      ∙ ap (λ (ls : List Line). refused_behind (region_refusal 4096 [] (map region_seen w.maps.items) numbers) (is_built ls)) spelt.lines_are
+
+  -- a region breaks a rule
+  pub region_refused : (r : RegionRefusal) → region_refusal 4096 [] (map region_seen w.maps.items) numbers ≡ Some r → refusal_of bytes ≡ Some (record { line = r.line; kind = why.Region r.kind })
+  region_refused r h = refusal_is ∙ ap (λ (o : Option RegionRefusal). refused_behind o (is_built (lines_of w))) h
+
+  -- none does, and the workload isn't built
+  pub unbuilt_refused : region_refusal 4096 [] (map region_seen w.maps.items) numbers ≡ None → is_built (lines_of w) ≡ false → refusal_of bytes ≡ Some (record { line = 0; kind = why.Unbuilt })
+  unbuilt_refused h b = refusal_is ∙ ap (λ (o : Option RegionRefusal). refused_behind o (is_built (lines_of w))) h ∙ ap (λ (x : _). refused_behind None x) b
+
+  -- or it is
+  pub unrefused : region_refusal 4096 [] (map region_seen w.maps.items) numbers ≡ None → is_built (lines_of w) ≡ true → refusal_of bytes ≡ None
+  unrefused h b = refusal_is ∙ ap (λ (o : Option RegionRefusal). refused_behind o (is_built (lines_of w))) h ∙ ap (λ (x : _). refused_behind None x) b

@@ -1,0 +1,9 @@
+use Rattle.std.proofs.Common.{◌≡◌, [], map, take, drop}
+use Rattle.umapsh.specs.Regions.{region_seen, region_refusal}
+use Rattle.umapsh.proofs.regions.region_refusal.Given as goal
+
+abbrev pub invariant-loop-i : goal.invariant-loop-i
+invariant-loop-i l = record {
+  table : l.table ≡ record { page_size = l.page_size; regions = take l.i (map region_seen l.maps) };
+  rest : region_refusal l.page_size [] (map region_seen l.maps) l.lines ≡ region_refusal l.page_size (take l.i (map region_seen l.maps)) (drop l.i (map region_seen l.maps)) (drop l.i l.lines);
+}

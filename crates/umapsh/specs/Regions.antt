@@ -1,0 +1,42 @@
+-- The rules on regions, tested on the `map` lines in order: each region behind those before it.
+use Rattle.std.specs.Prelude.{ℕ, List, [], ◌∷◌, ◌++◌, Option, Some, None}
+use Rattle.region_table.specs.Regions.{RegionSeen}
+use Rattle.region_table.specs.Rules.{region_fault}
+use Rattle.region_table.specs.declared.spec.RegionFault.{RegionFault}
+use Rattle.region_table.specs.declared.spec.RegionFault.TheVariants as fault
+use Rattle.workload_text.specs.Line.{Line, map_line}
+use Rattle.workload_text.specs.View.{backing_of}
+use Rattle.workload_text.specs.declared.workload.MapLine.{MapLine}
+use Rattle.umapsh.specs.declared.refusal.RegionKind.{RegionKind}
+use Rattle.umapsh.specs.declared.refusal.RegionKind.TheVariants as kind
+use Rattle.umapsh.specs.declared.refusal.RegionRefusal.{RegionRefusal}
+
+-- a region of a workload, as the table of regions sees it
+abbrev pub region_seen : MapLine → RegionSeen
+region_seen m = record { name = m.name.items; backing = backing_of m.kind; size = m.length; writable = m.writable }
+
+-- the regions of the `map` lines, in order
+abbrev pub regions_seen : List Line → List RegionSeen
+regions_seen [] = []
+regions_seen (map_line name backing size writable ∷ ls) = record { name = name; backing = backing; size = size; writable = writable } ∷ regions_seen ls
+regions_seen (l ∷ ls) = regions_seen ls
+
+-- the rule that a fault of the table of regions is; want of memory is none
+abbrev pub rule : Option RegionFault → Option RegionKind
+rule None = None
+rule (Some fault.SameName) = Some kind.SameName
+rule (Some fault.SameStore) = Some kind.SameStore
+rule (Some fault.BadLength) = Some kind.BadLength
+rule (Some (fault.TooManyPages pages)) = Some kind.TooManyPages
+rule (Some fault.OutOfMemory) = None
+
+-- the region of line n, where it breaks a rule, else what comes behind it
+abbrev pub or_behind : ℕ → Option RegionKind → Option RegionRefusal → Option RegionRefusal
+or_behind n (Some k) behind = Some (record { line = n; kind = k })
+or_behind n None behind = behind
+
+-- the first of these regions that breaks a rule behind those before it; each stands on the line of its number
+abbrev pub region_refusal : (page_size : ℕ) (before regions : List RegionSeen) (numbers : List ℕ) → Option RegionRefusal
+region_refusal page_size before (r ∷ rs) (n ∷ ns) =
+    or_behind n (rule (region_fault (record { page_size = page_size; regions = before }) r)) (region_refusal page_size (before ++ r ∷ []) rs ns)
+region_refusal page_size before rs ns = None

@@ -1,0 +1,87 @@
+//! The rules on regions, tested on the `map` lines in order.
+//!
+//! The table of regions knows the rules; here the regions of a workload are put into one, and the first that it refuses is
+//! named by its line.
+ghost use Rattle.std.specs.Prelude.{◌≡◌, ◌≤◌, true, [], map, length, IfOk, Some};
+ghost use Rattle.page_base.specs.Layouts.{is_page_size};
+ghost use Rattle.region_table.specs.Regions.{seen_of, backing_of};
+ghost use Rattle.workload_text.specs.View.{backing_of as backing_of_line};
+ghost use Rattle.umapsh.specs.Regions.{region_seen, rule, region_refusal};
+
+use crate::refusal::{RegionKind, RegionRefusal};
+use page_base::{Bytes, OutOfMemory};
+use region_table::{Kind, RegionFault, RegionSpec, RegionTable};
+use std::alloc::Global;
+use workload_text::{MapLine, StoreKind};
+
+fn kind_of(alloc: Global, store: &StoreKind) -> Result<Kind, OutOfMemory>
+    ensures { IfOk result (λ k. backing_of k ≡ backing_of_line store.now) }
+{
+    match store {
+        StoreKind::Memory => Ok(Kind::Memory),
+        StoreKind::File { path } => {
+            let path = Bytes::from_slice(alloc, path.as_slice())?;
+            Ok(Kind::File { path })
+        }
+        StoreKind::Sparse { path, file } => {
+            let path = Bytes::from_slice(alloc, path.as_slice())?;
+            Ok(Kind::Sparse { path, file: *file })
+        }
+    }
+}
+
+/// The region that a `map` line asks for.
+fn spec_of(alloc: Global, map: &MapLine) -> Result<RegionSpec, OutOfMemory>
+    ensures { IfOk result (λ s. seen_of s ≡ region_seen map.now) }
+{
+    Ok(RegionSpec {
+        name: Bytes::from_slice(alloc, map.name.as_slice())?,
+        kind: kind_of(alloc, &map.kind)?,
+        length: map.length,
+        writable: map.writable,
+    })
+}
+
+/// The rule that is broken. Want of memory is none.
+fn rule(fault: RegionFault) -> Option<RegionKind>
+    ensures { result ≡ rule (Some fault) }
+{
+    match fault {
+        RegionFault::SameName => Some(RegionKind::SameName),
+        RegionFault::SameStore => Some(RegionKind::SameStore),
+        RegionFault::BadLength => Some(RegionKind::BadLength),
+        RegionFault::TooManyPages { pages: _ } => Some(RegionKind::TooManyPages),
+        RegionFault::OutOfMemory => None,
+    }
+}
+
+/// The first region that breaks a rule behind those before it, if one does. `lines` are the lines that the regions stand on.
+pub fn region_refusal(
+    alloc: Global,
+    page_size: u32,
+    maps: &[MapLine],
+    lines: &[u32],
+) -> Result<Option<RegionRefusal>, OutOfMemory>
+    requires page_size { is_page_size page_size ≡ true }
+    requires few { length maps.now ≤ 64 }
+    requires as_many { length lines.now ≡ length maps.now }
+    ensures { IfOk result (λ r. r ≡ region_refusal page_size [] (map region_seen maps.now) lines.now) }
+{
+    let mut table = RegionTable::new(alloc, page_size)?;
+    for i in 0..maps.len() {
+        let spec = spec_of(alloc, &maps[i])?;
+        match table.add(&spec) {
+            Ok(_) => {}
+            Err(fault) => {
+                return match rule(fault) {
+                    Some(kind) => Ok(Some(RegionRefusal {
+                        line: lines[i],
+                        kind,
+                    })),
+                    None => Err(OutOfMemory),
+                };
+            }
+        }
+    }
+    Ok(None)
+}
