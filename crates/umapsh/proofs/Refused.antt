@@ -1,8 +1,8 @@
 -- What an input is refused for, from what was read of it.
-use Rattle.std.proofs.Common.{◌≡◌, ℕ, ◌<◌, true, false, List, [], length, map, Option, Some, None, Result, Ok, Err, refl, sym, ap, ◌∙◌}
+use Rattle.std.proofs.Common.{◌≡◌, ℕ, ◌<◌, true, false, List, [], length, map, Option, Some, None, Err, refl, sym, ap, ◌∙◌}
 use Rattle.std.proofs.lemmas.Bool.{lt-leb}
-use Rattle.workload_text.specs.Line.{Line, TextLine}
-use Rattle.workload_text.specs.Grammar.{IsText, Spells, lines_in}
+use Rattle.workload_text.specs.Line.{Line}
+use Rattle.workload_text.specs.Grammar.{Spells, lines_in}
 use Rattle.workload_text.specs.Refusals.{RefusedAt, refusal, read_text}
 use Rattle.workload_text.specs.Answers.{AreMapNumbers, IfRefused, map_numbers}
 use Rattle.workload_text.specs.Built.{is_built}

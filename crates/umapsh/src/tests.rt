@@ -8,7 +8,8 @@ use script_run::{FailingWrite, MemSink, MemSource};
 use std::test::Fail;
 use workload_text::TextKind;
 
-const RUN: &str = "map A memory 4096 rw\n# B stays as it is\nmap B memory 8192 ro\nscript s\nstore A 0 48656c6c6f\nload A 0 5\nload B 8191 1\n";
+const RUN: &str =
+    "map A memory 4096 rw\n# B stays as it is\nmap B memory 8192 ro\nscript s\nstore A 0 48656c6c6f\nload A 0 5\nload B 8191 1\n";
 
 const REPLIES: &[u8] = b"script s\nok\nload 48656c6c6f\nload 00\n";
 

@@ -1,7 +1,7 @@
-use Rattle.std.proofs.Common.{◌≡◌, ◌<◌, ℕ, List, length, map, get_or, Some, refl, sym, ◌∙◌, arith}
+use Rattle.std.proofs.Common.{◌≡◌, ◌<◌, List, length, map, get_or, refl, sym, ap, ◌∙◌, arith}
 use Rattle.std.proofs.lemmas.List.{get_or-map, length-map}
 use Rattle.region_table.specs.Regions.{RegionSeen, seen_of}
-use Rattle.umapsh.specs.Regions.{region_seen, rule}
+use Rattle.umapsh.specs.Regions.{region_seen}
 use Rattle.umapsh.proofs.RegionRules.{rule_is, table_more, turn_kept, turn_broken}
 use Rattle.umapsh.proofs.regions.region_refusal.Goals as goal
 use Rattle.umapsh.proofs.regions.region_refusal.Goals.{in-Some, in-None}
@@ -14,7 +14,7 @@ returns-in-Err c =
     let r : RegionSeen = seen_of c.in_ok-spec.spec in
     let below : i < length ms = omega arith in
     let there : i < length rs = omega (arith, length-map ms region_seen) in
-    let here : r ≡ get_or rs i r = c.in_ok-spec.ensures ∙ sym (get_or-map region_seen ms i c.index-maps-i.result r below) in
+    let here : r ≡ get_or rs i r = c.in_ok-spec.ensures ∙ ap region_seen c.index-maps-i.is ∙ sym (get_or-map region_seen ms i c.index-maps-i.result r below) in
     elim c.match-rule.branch [
       | in-Some w ↦
           let broken = rule_is _ c.in-Err.fault w.in-Some.kind c.in-Err.ensures.refused (sym w.in-Some.ensures) in
@@ -30,7 +30,7 @@ loop-i-preserved c =
     let r : RegionSeen = seen_of c.in_ok-spec.spec in
     let below : i < length ms = omega arith in
     let there : i < length rs = omega (arith, length-map ms region_seen) in
-    let here : r ≡ get_or rs i r = c.in_ok-spec.ensures ∙ sym (get_or-map region_seen ms i c.index-maps-i.result r below) in
+    let here : r ≡ get_or rs i r = c.in_ok-spec.ensures ∙ ap region_seen c.index-maps-i.is ∙ sym (get_or-map region_seen ms i c.index-maps-i.result r below) in
     let inside : i < length c.args.lines.now = omega (arith, c.requires.as_many) in
     record {
       table = table_more c.args.page_size rs c.args.lines.now i (get_or c.args.lines.now i 0) r c.loop-i.table there here inside refl c.loop-i.invariant.table c.add.new.self c.in-Ok.ensures.added;

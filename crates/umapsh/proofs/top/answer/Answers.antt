@@ -1,6 +1,6 @@
-use Rattle.std.proofs.Common.{[], sym, ◌∙◌, lit≤}
+use Rattle.std.proofs.Common.{[], lit≤}
 use Rattle.umapsh.proofs.Inputs.{consumes_none}
-use Rattle.umapsh.proofs.Outcomes.{done_says, fault_says, run_says, run_causes, run_words, read_says, read_causes, read_words}
+use Rattle.umapsh.proofs.Outcomes.{done_says, fault_says, run_says, run_causes, read_says, read_causes}
 use Rattle.umapsh.proofs.top.answer.Goals as goal
 
 pub returns-in-Some-clause-few : goal.returns-in-Some-clause-few

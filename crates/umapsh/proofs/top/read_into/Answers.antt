@@ -1,4 +1,4 @@
-use Rattle.std.proofs.Common.{◌≡◌, ◌<◌, ◌≤◌, ℕ, List, ◌++◌, length, take, Option, sym, ap, subst, ◌∙◌, arith, rules, append-nil, length-append, length-take}
+use Rattle.std.proofs.Common.{◌≡◌, ℕ, List, ◌++◌, length, take, ap, subst, ◌∙◌, arith, rules, append-nil, length-append, length-take}
 use Rattle.std.specs.Io.KnownBytes.{Consumes}
 use Rattle.umapsh.proofs.Inputs.{consumes_none, consumes_kept, consumes_more}
 use Rattle.umapsh.proofs.top.read_into.Goals as goal
