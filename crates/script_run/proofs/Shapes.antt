@@ -1,44 +1,39 @@
 -- The shapes of the regions of a workload that can be run.
-use Rattle.std.proofs.Common.{List, [], ap, arith, get_or, length, map, zero, suc, refl, ℕ, ◌*◌, ◌/◌, ◌<◌, ◌≤◌, ◌∷◌, ◌≡◌}
+use Rattle.std.proofs.Common.{List, [], ap, arith, length, map, sum, sym, true, refl, ℕ, ◌/◌, ◌≤◌, ◌∷◌, ◌≡◌, ◌∙◌}
 use Rattle.std.specs.Prelude.{All, sum_by}
-use Rattle.std.proofs.lemmas.List.Sums.{sum_by-cons}
-use Rattle.std.proofs.Math.Nat.{div-le_of_le-mul, mul_comm}
-use Rattle.std.proofs.lemmas.Nat.{mul-le}
+use Rattle.std.proofs.lemmas.List.{length-map}
+use Rattle.std.proofs.lemmas.List.Sums.{sum-map, sum_by-le}
+use Rattle.std.proofs.Math.Nat.{div-le_of_le-mul}
 use Rattle.page_base.specs.declared.keys.RegionShape.{RegionShape}
 use Rattle.workload_text.specs.declared.workload.MapLine.{MapLine}
 use Rattle.workload_text.specs.declared.workload.Workload.{Workload}
-use Rattle.workload_text.specs.Line.{Line}
 use Rattle.workload_text.specs.Grammar.{Region, size_at}
-use Rattle.workload_text.specs.View.{lines_of}
+use Rattle.workload_text.specs.View.{region, lines_of}
+use Rattle.workload_text.specs.Built.{is_built}
 use Rattle.workload_text.specs.Accepted.{IsRunnable, regions_of}
+use Rattle.workload_text.proofs.RegionLists.{size_at-read}
 use Rattle.script_run.specs.Fits.{pages_of}
 use Rattle.script_run.proofs.Openings.{sizes_small}
-use Rattle.script_run.proofs.Zeros.{region_of, regions_are}
+use Rattle.script_run.proofs.Zeros.{regions_are}
 
-size_of_map : (ms : List MapLine) (i : ℕ) (d : MapLine) → i < length ms → size_at (map region_of ms) i ≡ (get_or ms i d).length
-size_of_map [] i d below = absurd (omega arith)
-size_of_map (m ∷ ms) zero d below = refl
-size_of_map (m ∷ ms) (suc i) d below = size_of_map ms i d (omega arith)
+pub maps_small : (w : Workload) → IsRunnable (lines_of w) → is_built (lines_of w) ≡ true → All (λ (m : MapLine). m.length ≤ 16777216) w.maps.items
+maps_small w can built i d below = omega (arith, sizes_small (regions_of (lines_of w)) (lines_of w) built can.fit i, ap (λ (gs : List Region). size_at gs i) (regions_are w), size_at-read w.maps.items i d below)
 
-pub maps_small : (w : Workload) → IsRunnable (lines_of w) → All (λ (m : MapLine). m.length ≤ 16777216) w.maps.items
-maps_small w can i d below = omega (arith, sizes_small (regions_of (lines_of w)) (lines_of w) can.fit i, ap (λ (gs : List Region). size_at gs i) (regions_are w), size_of_map w.maps.items i d below)
-
-pub pages_of_maps : (z : ℕ) (ms : List MapLine) → map (λ (m : MapLine). m.length / z) ms ≡ pages_of z (map region_of ms)
+pub pages_of_maps : (z : ℕ) (ms : List MapLine) → map (λ (m : MapLine). m.length / z) ms ≡ pages_of z (map region ms)
 pages_of_maps z [] = refl
 pages_of_maps z (m ∷ ms) = ap (λ (ns : List ℕ). m.length / z ∷ ns) (pages_of_maps z ms)
 
-sum_of_pages : (shapes : List RegionShape) (gs : List Region) (z : ℕ) → map (λ (s : RegionShape). s.pages) shapes ≡ pages_of z gs → length gs ≤ 1 → size_at gs 0 ≤ 1048576 * z → 0 < z → sum_by (λ (s : RegionShape). s.pages) shapes ≤ 1048576
-sum_of_pages [] gs z e few small some = omega arith
-sum_of_pages (s ∷ []) [] z e few small some = absurd (omega (arith, ap length e))
-sum_of_pages (s ∷ []) (g ∷ gs) z e few small some =
-    let first : s.pages ≡ g.size / z = ap (λ (ns : List ℕ). get_or ns 0 0) e in
-    let most : g.size / z ≤ 1048576 = div-le_of_le-mul z (omega (arith, small, mul_comm 1048576 z)) in
-    let all = sum_by-cons (λ (x : RegionShape). x.pages) s [] in
-    omega (arith, first, most, all)
-sum_of_pages (s ∷ r ∷ shapes) [] z e few small some = absurd (omega (arith, ap length e))
-sum_of_pages (s ∷ r ∷ shapes) (g ∷ []) z e few small some = absurd (omega (arith, ap length e))
-sum_of_pages (s ∷ r ∷ shapes) (g ∷ h ∷ gs) z e few small some = absurd (omega (arith, few))
+-- the pages of all regions, by the `map` lines
+pub all_pages : (w : Workload) (z : ℕ) → sum_by (λ (m : MapLine). m.length / z) w.maps.items ≡ sum (pages_of z (regions_of (lines_of w)))
+all_pages w z = sym (sum-map (λ (m : MapLine). m.length / z) w.maps.items) ∙ ap sum (pages_of_maps z w.maps.items ∙ ap (pages_of z) (sym (regions_are w)))
 
--- so few pages that a page table holds them
-pub few_pages : (ls : List Line) (shapes : List RegionShape) (z : ℕ) → IsRunnable ls → 64 ≤ z → map (λ (s : RegionShape). s.pages) shapes ≡ pages_of z (regions_of ls) → sum_by (λ (s : RegionShape). s.pages) shapes ≤ 1048576
-few_pages ls shapes z can large e = sum_of_pages shapes (regions_of ls) z e can.regions (omega (arith, sizes_small (regions_of ls) ls can.fit 0, mul-le 1048576 64 1048576 z (omega arith) large)) (omega arith)
+-- a page table holds the pages of shapes as it holds those of their regions
+pub few_pages : (shapes : List RegionShape) (pages : List ℕ) → map (λ (s : RegionShape). s.pages) shapes ≡ pages → sum pages ≤ 1048576 → sum_by (λ (s : RegionShape). s.pages) shapes ≤ 1048576
+few_pages shapes pages e few = omega (arith, few, ap sum e, sum-map (λ (s : RegionShape). s.pages) shapes)
+
+-- regions in memory have few pages where the pages are large: 64 times 16777216 bytes in 1024-byte pages
+pub few_of_large : (w : Workload) (z : ℕ) → IsRunnable (lines_of w) → is_built (lines_of w) ≡ true → 1024 ≤ z → sum (pages_of z (regions_of (lines_of w))) ≤ 1048576
+few_of_large w z can built large =
+    let small = maps_small w can built in
+    let most = sum_by-le (λ (m : MapLine). m.length / z) 16384 w.maps.items (λ i d below. div-le_of_le-mul z (omega (arith, small i d below))) in
+    omega (arith, most, all_pages w z, can.regions, ap length (regions_are w), length-map w.maps.items region)

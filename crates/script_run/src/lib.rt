@@ -20,7 +20,7 @@ mod source;
 #[cfg(test)]
 mod tests;
 
-pub use memory::{memory_lanes, pages_are_whole};
+pub use memory::{memory_lanes, pages_are_few, pages_are_whole};
 pub use serial_run::{RunBack, SerialEnd, serial};
 pub use settings::Settings;
 pub use sink::{FailingWrite, MemSink, Sink, SinkFault, StdSink};

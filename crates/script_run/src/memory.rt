@@ -1,5 +1,5 @@
 //! The lanes of a workload whose regions are kept in memory, all zeros at first.
-ghost use Rattle.std.specs.Prelude.{◌≡◌, ◌<◌, ◌≤◌, ◌*◌, ◌/◌, ◌%◌, ◌==◌, ◌∷◌, [], true, map, length, replicate, All, IfOk, OnOk};
+ghost use Rattle.std.specs.Prelude.{◌≡◌, ◌<◌, ◌≤◌, ◌*◌, ◌/◌, ◌%◌, ◌==◌, ◌∷◌, [], true, map, sum, sum_by, nat_le, length, replicate, All, IfOk, OnOk};
 ghost use Rattle.std.specs.List.{list_all};
 ghost use Rattle.store_trait.specs.MemLanes.{lane_seen, AreLanesOf};
 ghost use Rattle.workload_text.specs.View.{region, lines_of};
@@ -15,6 +15,9 @@ use page_base::{Bytes, Layout, List, OutOfMemory, RegionShape};
 use std::alloc::Global;
 use store_trait::{LaneSet, MemLane, MemStore};
 use workload_text::{MapLine, Workload};
+
+/// The most pages of a page table.
+const MOST_PAGES: u64 = 1_048_576;
 
 /// So many stripes without a lane.
 fn empty_rows(alloc: Global, stripes: usize) -> Result<Vec<List<MemLane>>, OutOfMemory>
@@ -128,6 +131,29 @@ pub fn pages_are_whole(workload: &Workload, page_size: u32) -> bool
     ensures { result ≡ has_whole_pages page_size (regions_of (lines_of workload.now)) }
 {
     are_whole(workload.maps.as_slice(), u64::from(page_size))
+}
+
+fn are_few(maps: &[MapLine], page_size: u64) -> bool
+    requires { 0 < page_size }
+    ensures { result ≡ nat_le (sum_by (λ map. map.length / page_size) maps.now) 1048576 }
+{
+    let mut total = 0u64;
+    for map in maps {
+        let pages = map.length / page_size;
+        if pages > MOST_PAGES - total {
+            return false;
+        }
+        total += pages;
+    }
+    true
+}
+
+/// Whether all regions together have no more pages than a page table holds, 1048576.
+pub fn pages_are_few(workload: &Workload, page_size: u32) -> bool
+    requires { 0 < page_size }
+    ensures { result ≡ nat_le (sum (pages_of page_size (regions_of (lines_of workload.now)))) 1048576 }
+{
+    are_few(workload.maps.as_slice(), u64::from(page_size))
 }
 
 /// The shape of each region.

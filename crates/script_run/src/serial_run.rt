@@ -1,13 +1,13 @@
 //! A serial run: every script of a workload, one after another, in file order.
 //!
 //! All memory is taken before the first line runs, so the only refusal comes at opening, and hands the lanes back.
-ghost use Rattle.std.specs.Prelude.{◌≡◌, ◌+◌, ◌<◌, ◌^◌, ◌∷◌, [], true, length, sum, IfOk, IfErr};
+ghost use Rattle.std.specs.Prelude.{◌≡◌, ◌+◌, ◌<◌, ◌≤◌, ◌^◌, ◌∷◌, [], true, length, sum, IfOk, IfErr};
 ghost use Rattle.workload_text.specs.View.{lines_of, script_lines, command_line};
 ghost use Rattle.workload_text.specs.Built.{is_built};
 ghost use Rattle.workload_text.specs.Accepted.{IsRunnable, regions_of, loaded_bytes};
 ghost use Rattle.script_run.specs.Serial.{serial_text, serial_end, serial_loads};
 ghost use Rattle.script_run.specs.Contents.{rows_seen, contents_of, origins_of};
-ghost use Rattle.script_run.specs.Fits.{FitLanes};
+ghost use Rattle.script_run.specs.Fits.{FitLanes, pages_of};
 ghost use Rattle.script_run.specs.Rooms.{room, rooms};
 ghost use Rattle.script_run.specs.Running.{MayRun, Ran};
 
@@ -126,7 +126,8 @@ fn room_of(workload: &Workload) -> usize
 }
 
 /// Runs the scripts one after another over lanes in memory. The text, what the lanes hold afterwards and the loaded bytes
-/// are those of the serial meaning, for whatever the lanes hold at first. The settings' layout says how pages are spread.
+/// are those of the serial meaning, for whatever the lanes hold at first. The settings' layout says how pages are spread. A
+/// page table holds 1048576 pages: `pages_are_few` is the test.
 pub fn serial(
     alloc: Global,
     settings: &Settings,
@@ -135,6 +136,7 @@ pub fn serial(
 ) -> Result<SerialEnd<MemLane>, RunBack<MemLane>>
     requires runnable { IsRunnable (lines_of workload.now) }
     requires built { is_built (lines_of workload.now) ≡ true }
+    requires pages { sum (pages_of settings.now.layout.page_size (regions_of (lines_of workload.now))) ≤ 1048576 }
     requires lanes { FitLanes settings.now.layout (regions_of (lines_of workload.now)) (rows_seen lanes) }
     ensures text { IfOk result (λ e. e.text.items ≡ serial_text (contents_of (rows_seen lanes)) (lines_of workload.now)) }
     ensures contents { IfOk result (λ e. contents_of (rows_seen e.lanes) ≡ serial_end (contents_of (rows_seen lanes)) (lines_of workload.now)) }

@@ -1,9 +1,9 @@
 //! Workloads with their texts, over several layouts.
-use crate::{SerialEnd, Settings, memory_lanes, pages_are_whole, serial};
+use crate::{SerialEnd, Settings, memory_lanes, pages_are_few, pages_are_whole, serial};
 use page_base::Layout;
 use std::process::Abort;
 use store_trait::MemLane;
-use workload_text::parse;
+use workload_text::{is_built, parse};
 
 /// Runs a text that is accepted.
 fn answer(rt: &(impl Abort + AllocGlobal), layout: Layout, text: &str) -> SerialEnd<MemLane> {
@@ -14,8 +14,14 @@ fn answer(rt: &(impl Abort + AllocGlobal), layout: Layout, text: &str) -> Serial
     let Ok(parsed) = parse(rt.alloc(), text.as_bytes()) else {
         panic!(rt; "refused: {text}");
     };
+    if !is_built(&parsed.workload) {
+        panic!(rt; "not built: {text}");
+    }
     if !pages_are_whole(&parsed.workload, layout.page_size()) {
         panic!(rt; "no whole pages: {text}");
+    }
+    if !pages_are_few(&parsed.workload, layout.page_size()) {
+        panic!(rt; "too many pages: {text}");
     }
     let Ok(lanes) = memory_lanes(rt.alloc(), &settings, &parsed.workload) else {
         panic!(rt; "no memory");
@@ -60,6 +66,11 @@ fn workloads_have_their_texts(rt: HostRuntime) {
         (
             "map A memory 64 rw\nmap B memory 128 rw\nscript s\nstore A 1 aa\nstore B 63 0102\nload A 0 2\nload B 62 3\n",
             "script s\nok\nok\nload 00aa\nload 000102\n",
+        ),
+        // Two regions whose pages take turns in a small buffer.
+        (
+            "map A memory 192 rw\nmap B memory 128 rw\nscript s\nstore A 60 0102030405060708\nstore B 127 ff\nstore A 188 aabbccdd\nload B 120 8\nstore B 0 11\nload A 62 4\nload A 187 5\nload B 0 2\nload B 127 1\n",
+            "script s\nok\nok\nok\nload 00000000000000ff\nok\nload 03040506\nload 00aabbccdd\nload 1100\nload ff\n",
         ),
         // Two scripts one after another, and a load of nothing at the region's end.
         (

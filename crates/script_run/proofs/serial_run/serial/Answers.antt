@@ -30,7 +30,7 @@ run_scripts-requires-clause-may c =
     }
 
 pub shapes_of-requires-clause-small : goal.shapes_of-requires-clause-small
-shapes_of-requires-clause-small c = maps_small c.args.workload.now c.requires.runnable
+shapes_of-requires-clause-small c = maps_small c.args.workload.now c.requires.runnable c.requires.built
 
 pub new-requires-clause-pages : goal.new-requires-clause-pages
 new-requires-clause-pages c =
@@ -44,5 +44,5 @@ pub new-requires-clause-few : goal.new-requires-clause-few
 new-requires-clause-few c =
     let layout = c.args.settings.now.layout in
     let gs = regions_of (lines_of c.args.workload.now) in
-    few_pages (lines_of c.args.workload.now) c.in-Ok-shapes_of.shapes.items layout.page_size c.requires.runnable layout.large_pages
-    (c.in-Ok-shapes_of.ensures ∙ ap (λ (z : ℕ). pages_of z gs) c.page_size.ensures)
+    few_pages c.in-Ok-shapes_of.shapes.items (pages_of layout.page_size gs)
+    (c.in-Ok-shapes_of.ensures ∙ ap (λ (z : ℕ). pages_of z gs) c.page_size.ensures) c.requires.pages
