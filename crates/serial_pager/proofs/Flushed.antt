@@ -1,0 +1,156 @@
+-- A pager whose dirty pages were written, as all its pages see it.
+use Rattle.std.proofs.Common.{◌≡◌, ◌⊎◌, inl, inr, ℕ, zero, suc, ◌+◌, ◌^◌, ◌<◌, ◌≤◌, Bool, true, false, List, [], ◌∷◌, length, Option, Some, None, IfSome, slice_get, refl, sym, ap, subst, ◌∙◌, arith, cond}
+use Rattle.std.specs.Option.{option_map}
+use Rattle.std.proofs.lemmas.Option.{slice_get_within}
+use Rattle.histories.specs.Histories.{History}
+use Rattle.page_base.specs.declared.keys.Key.{Key}
+use Rattle.page_base.specs.declared.keys.RegionShape.{RegionShape}
+use Rattle.page_base.specs.Lanes.{Rose}
+use Rattle.page_base.specs.Pages.{stripe_of}
+use Rattle.page_model.specs.declared.entry.Entry.{Entry}
+use Rattle.page_model.specs.Core.{Core, page_at}
+use Rattle.page_model.specs.Setups as setup
+use Rattle.page_model.specs.Setups.{Setup, regions}
+use Rattle.serial_pager.specs.Seen.{StripeSeen}
+use Rattle.serial_pager.specs.Holdings as one
+use Rattle.serial_pager.specs.Writings as one_writing
+use Rattle.serial_pager.specs.Pagers.{PagerSeen, group_in, core_in, held_in, kept_in, count_in, core_at, page_in, has_page, stripe_at, count_at, IsSame, HoldsSame, CountsGrow, RoseAt, IsKept, IsTried}
+use Rattle.serial_pager.specs.Sound.{IsSound, Flushes, SomeRose}
+use Rattle.serial_pager.proofs.Stripes.{stripe_of_pages}
+
+pub past : {A : Type 0} (xs : List A) (q : ℕ) → slice_get xs q ≡ None → length xs ≤ q
+past [] q f = omega arith
+past (z ∷ xs) zero f = absurd (cc)
+past (z ∷ xs) (suc q) f = omega (arith, past xs q f)
+
+same_kept : (o q : Option (List ℕ)) → q ≡ o → IfSome o (λ bytes. q ≡ Some bytes)
+same_kept None q e = tt
+same_kept (Some bytes) q e = e
+
+module _ {J : Type 0} (has_noted : J → History Entry → Type 0) (old new : PagerSeen J) (sound : IsSound old) (many : length new.stripes ≡ length old.stripes) (shapes : new.shapes ≡ old.shapes) (size : new.page_size ≡ old.page_size)
+    (flushed : (s : ℕ) (x y : StripeSeen J) → slice_get old.stripes s ≡ Some x → slice_get new.stripes s ≡ Some y → Flushes has_noted x y) where
+  record Pair (s : ℕ) : Type 0 where
+    pub x : StripeSeen J
+    pub y : StripeSeen J
+    pub was : slice_get old.stripes s ≡ Some x
+    pub is : slice_get new.stripes s ≡ Some y
+
+  record Neither (s : ℕ) : Type 0 where
+    pub was : slice_get old.stripes s ≡ None
+    pub is : slice_get new.stripes s ≡ None
+
+  pair : (s : ℕ) → Pair s ⊎ Neither s
+  pair s = go (slice_get old.stripes s) (slice_get new.stripes s) refl refl
+    where
+      go : (o q : Option (StripeSeen J)) → slice_get old.stripes s ≡ o → slice_get new.stripes s ≡ q → Pair s ⊎ Neither s
+      go None None e f = inr (record { was = e; is = f })
+      go None (Some y) e f = absurd (omega (arith, past old.stripes s e, slice_get_within new.stripes s y f, many))
+      go (Some x) None e f = absurd (omega (arith, past new.stripes s f, slice_get_within old.stripes s x e, many))
+      go (Some x) (Some y) e f = inl (record { x = x; y = y; was = e; is = f })
+
+  same_stripe : (k : Key) → stripe_at new k ≡ stripe_at old k
+  same_stripe k =
+      ap (λ n. stripe_of n (group_in (slice_get new.shapes k.region)) k.region k.page) many
+      ∙ ap (λ (ss : List RegionShape). stripe_of (length old.stripes) (group_in (slice_get ss k.region)) k.region k.page) shapes
+
+  same_page : (k : Key) → has_page new k ≡ has_page old k
+  same_page k = ap (λ (ss : List RegionShape). page_in (slice_get ss k.region) k.page) shapes
+
+  pub same : IsSame old new
+  same = record {
+    page_size = size;
+    shapes = shapes;
+    stripes = many;
+    setups = λ s. elim (pair s) [
+      | inl p ↦ ap (λ o. option_map (λ (c : Core). c.setup) (core_in o)) p.is ∙ ap (λ (u : Setup). Some u) (flushed s p.x p.y p.was p.is).entries.went.setup ∙ sym (ap (λ o. option_map (λ (c : Core). c.setup) (core_in o)) p.was)
+      | inr n ↦ ap (λ o. option_map (λ (c : Core). c.setup) (core_in o)) n.is ∙ sym (ap (λ o. option_map (λ (c : Core). c.setup) (core_in o)) n.was)
+    ];
+  }
+
+  pub sound_after : (spent : ℕ) → old.spent + 64 ≡ new.spent → new.spent ≤ 2 ^ 44 → IsSound new
+  sound_after spent more bound = record {
+    groups = λ r shape e. sound.groups r shape (sym (ap (λ ss. slice_get ss r) shapes) ∙ e);
+    few = bound;
+    each = λ s y e. elim (pair s) [
+      | inl p ↦
+          let f = flushed s p.x y p.was e in
+          let part = sound.each s p.x p.was in
+          let u = f.entries.went.setup in
+          record {
+            rest = f.rest;
+            page_size = ap (λ (v : Setup). v.page_size) u ∙ part.page_size ∙ sym size;
+            stripes = ap (λ (v : Setup). v.stripes) u ∙ part.stripes ∙ sym many;
+            number = ap (λ (v : Setup). v.number) u ∙ part.number;
+            shapes = ap (λ (v : Setup). v.shapes) u ∙ part.shapes ∙ sym shapes;
+            few = omega (arith, f.few, part.few, more);
+          }
+      | inr n ↦ absurd (none_some (sym n.is ∙ e))
+    ];
+  }
+    where
+      none_some : {y : StripeSeen J} → None ≡ Some y → ⊥
+      none_some e = cc
+
+  pub held_after : HoldsSame old new
+  held_after k page = elim (pair (stripe_at old k)) [
+    | inl p ↦
+        let here = (flushed (stripe_at old k) p.x p.y p.was p.is).held k (stripe_of_pages old (stripe_at old k) p.x.core (sound.each (stripe_at old k) p.x p.was) k page refl) in
+        ap (λ s. held_in (core_at new s) k) (same_stripe k) ∙ ap (λ o. held_in (core_in o) k) p.is ∙ here ∙ sym (ap (λ o. held_in (core_in o) k) p.was)
+    | inr n ↦ ap (λ s. held_in (core_at new s) k) (same_stripe k) ∙ ap (λ o. held_in (core_in o) k) n.is ∙ sym (ap (λ o. held_in (core_in o) k) n.was)
+  ]
+
+  count_was : (s r : ℕ) (p : Pair s) → count_at old s r ≡ one.count_at p.x.core r
+  count_was s r p = ap (λ o. count_in (core_in o) r) p.was
+
+  count_is : (s r : ℕ) (p : Pair s) → count_at new s r ≡ one.count_at p.y.core r
+  count_is s r p = ap (λ o. count_in (core_in o) r) p.is
+
+  pub counts_after : CountsGrow old new
+  counts_after s r = elim (pair s) [
+    | inl p ↦ let grow = (flushed s p.x p.y p.was p.is).counts r in omega (arith, grow, count_was s r p, count_is s r p)
+    | inr n ↦ omega (arith, ap (λ o. count_in (core_in o) r) n.was)
+  ]
+
+  rose_after : (s r : ℕ) (p : Pair s) → one_writing.RoseAt p.x.core p.y.core r → RoseAt old new s r
+  rose_after s r p rose = subst (λ n. Rose n (count_at new s r)) (sym (count_was s r p)) (subst (λ n. Rose (one.count_at p.x.core r) n) (sym (count_is s r p)) rose)
+
+  kept_after : (s r : ℕ) (p : Pair s) → one.IsStored p.y.core r → IsKept new s r
+  kept_after s r p stored k region page at =
+      let here : core_at new (stripe_at new k) ≡ Some p.y.core = ap (core_at new) at ∙ ap core_in p.is in
+      let part = sound.each s p.x p.was in
+      let u = (flushed s p.x p.y p.was p.is).entries.went.setup in
+      let mine : setup.has_page p.x.core.setup k ≡ true = stripe_of_pages old s p.x.core part k (sym (same_page k) ∙ page) (sym (same_stripe k) ∙ at) in
+      let its : setup.has_page p.y.core.setup k ≡ true = ap (λ v. setup.has_page v k) u ∙ mine in
+      subst (λ o. IfSome (held_in o k) (λ bytes. kept_in o k ≡ Some bytes)) (sym here) (go k its region (setup.is_told p.y.core.setup k) refl)
+    where
+      go : (k : Key) → setup.has_page p.y.core.setup k ≡ true → k.region ≡ r → (b : Bool) → setup.is_told p.y.core.setup k ≡ b → IfSome (one.held p.y.core k) (λ bytes. one.told p.y.core k ≡ Some bytes)
+      go k its region true told = same_kept (one.held p.y.core k) (one.told p.y.core k) (stored.told k region its told)
+      go k its region false told = subst (λ o. IfSome o (λ bytes. one.told p.y.core k ≡ Some bytes)) (sym (ap (λ b. cond b (one.bytes_or (page_at p.y.core k) (one.told p.y.core k)) None) told)) tt
+
+  pub tried_after : (s r : ℕ) → s < length old.stripes → r < length old.shapes → IsTried old new s r
+  tried_after s r below region = elim (pair s) [
+    | inl p ↦
+        let lt : r < regions p.x.core.setup = subst (λ (ss : List RegionShape). r < length ss) (sym (sound.each s p.x p.was).shapes) region in
+        elim ((flushed s p.x p.y p.was p.is).tried r lt) [
+          | inl rose ↦ inl (rose_after s r p rose)
+          | inr stored ↦ inr (kept_after s r p stored)
+        ]
+    | inr n ↦ absurd (omega (arith, past old.stripes s n.was, below))
+  ]
+
+  pub failed_after : SomeRose old.stripes new.stripes → (s : ℕ) × (r : ℕ) × (s < length old.stripes) × (r < length old.shapes) × RoseAt old new s r
+  failed_after e = (
+    e.s,
+    e.r,
+    slice_get_within old.stripes e.s e.x e.was,
+    subst (λ (ss : List RegionShape). e.r < length ss) (sound.each e.s e.x e.was).shapes e.region,
+    rose_after e.s e.r (record { x = e.x; y = e.y; was = e.was; is = e.is }) e.rose,
+  )
+
+  pub stored_after : ((s : ℕ) (y : StripeSeen J) → slice_get new.stripes s ≡ Some y → (r : ℕ) → r < regions y.core.setup → one.IsStored y.core r) → (s r : ℕ) → s < length old.stripes → r < length old.shapes → IsKept new s r
+  stored_after stored s r below region = elim (pair s) [
+    | inl p ↦
+        let lt : r < regions p.y.core.setup = subst (λ u. r < regions u) (sym (flushed s p.x p.y p.was p.is).entries.went.setup) (subst (λ (ss : List RegionShape). r < length ss) (sym (sound.each s p.x p.was).shapes) region) in
+        kept_after s r p (stored s p.y p.is r lt)
+    | inr n ↦ absurd (omega (arith, past old.stripes s n.was, below))
+  ]

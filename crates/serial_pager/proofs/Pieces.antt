@@ -1,0 +1,182 @@
+-- A piece on one stripe of a pager: what its call asks for, and what it leaves.
+use Rattle.std.proofs.Common.{◌≡◌, ◌⊎◌, inl, inr, ℕ, ◌+◌, ◌*◌, ◌^◌, ◌<◌, ◌≤◌, Bool, true, List, length, get_or, Option, Some, None, Result, Ok, Err, OnOk, OnErr, IfErr, slice_get, slice_set, refl, sym, ap, subst, ◌∙◌, arith}
+use Rattle.std.proofs.lemmas.Bool.{cases_eq, or_cases}
+use Rattle.page_base.specs.Pages.{same}
+use Rattle.stripe_core.proofs.Keys.{same-true}
+use Rattle.std.proofs.lemmas.Option.{slice_get_read}
+use Rattle.histories.specs.Histories.{History}
+use Rattle.page_base.specs.declared.keys.Key.{Key}
+use Rattle.page_base.specs.declared.keys.Why.{Why}
+use Rattle.page_base.specs.Lanes.{Rose}
+use Rattle.page_model.specs.declared.entry.Entry.{Entry}
+use Rattle.page_model.specs.Core.{Core, reads_out, frames_held}
+use Rattle.page_model.specs.Events.{InPage}
+use Rattle.page_model.specs.Setups as setup
+use Rattle.page_model.specs.Setups.{Setup, quota}
+use Rattle.page_model.specs.Stands.{StandsFor}
+use Rattle.page_model.proofs.Changes.{slice_set_same, slice_set_other}
+use Rattle.stripe_core.specs.declared.config.StripeConfig.{StripeConfig}
+use Rattle.serial_pager.specs.declared.fault.PageFault.{PageFault}
+use Rattle.serial_pager.specs.Seen.{StripeSeen}
+use Rattle.serial_pager.specs.Rests.{IsAtRest}
+use Rattle.serial_pager.specs.Goings.{WentTo}
+use Rattle.serial_pager.specs.Accesses.{NamesCount, WriteFails, AccessFails, serves}
+use Rattle.serial_pager.specs.Holdings as stripe
+use Rattle.serial_pager.specs.Pagers.{PagerSeen, core_in, has_page, stripe_at, count_at, IsPiece, IsSame, IsWithin, OnStripe, NamesFault}
+use Rattle.serial_pager.specs.Sound.{seen_of, IsStripe, IsSound}
+use Rattle.serial_pager.proofs.Stripes.{as_many, pages_of_stripe, stripe_of_pages, setups_same, owes_was, count_here, count_was}
+
+-- stripe s is there, and its core is that of stripe s
+pub record Touches {J : Type 0} (p : PagerSeen J) (s : ℕ) (x : StripeSeen J) : Type 0 where
+  pub was : slice_get p.stripes s ≡ Some x
+  pub part : IsStripe p s x.core
+  pub sound : IsSound p
+
+pub touched : {J : Type 0} (p : PagerSeen J) (c : StripeConfig) (stripes : List (StripeSeen J)) (spent s : ℕ) (x : StripeSeen J) → seen_of c stripes spent ≡ p → IsSound (seen_of c stripes spent) → s < length p.stripes → x ≡ get_or stripes s x → Touches p s x
+touched {J} p c stripes spent s x view sound below is =
+    let here : slice_get p.stripes s ≡ Some x = ap (λ (q : PagerSeen J). slice_get q.stripes s) (sym view) ∙ slice_get_read stripes (length stripes) s x refl (subst (λ (q : PagerSeen J). s < length q.stripes) (sym view) below) is in
+    let ok : IsSound p = subst (λ (q : PagerSeen J). IsSound q) view sound in
+    record { was = here; part = ok.each s x here; sound = ok }
+
+module _ {J : Type 0} (p : PagerSeen J) (s : ℕ) (x : StripeSeen J) (t : Touches p s x) where
+  pub piece_in_page : (k : Key) (place len : ℕ) → IsPiece p k place len → s ≡ stripe_at p k → InPage x.core.setup k place len
+  piece_in_page k place len piece e = record {
+    page = stripe_of_pages p s x.core t.part k piece.page (sym e);
+    some = piece.some;
+    inside = subst (λ n. place + len ≤ n) (sym t.part.page_size) piece.within;
+  }
+
+  pub few_is : (more : ℕ) → p.spent + more ≤ 2 ^ 44 → x.core.events + more * 65536 ≤ 2 ^ 62
+  few_is more few = omega (arith, t.part.few)
+
+-- ---- afterwards
+
+module _ {J : Type 0} (old new : PagerSeen J) (s : ℕ) (x y : StripeSeen J) (t : Touches old s x) (is : new.stripes ≡ slice_set old.stripes s y) (shapes : new.shapes ≡ old.shapes) (size : new.page_size ≡ old.page_size) (setup : y.core.setup ≡ x.core.setup) where
+  pub same_on : IsSame old new
+  same_on = record {
+    page_size = size;
+    shapes = shapes;
+    stripes = as_many old new s x y t.was is shapes;
+    setups = setups_same old new s x y t.was is shapes setup;
+  }
+
+  part_on : (more : ℕ) → new.spent ≡ old.spent + more → IsAtRest y.core → y.core.events ≤ x.core.events + more * 65536 → IsStripe new s y.core
+  part_on more spent rest few = record {
+    rest = rest;
+    page_size = ap (λ (u : Setup). u.page_size) setup ∙ t.part.page_size ∙ sym size;
+    stripes = ap (λ (u : Setup). u.stripes) setup ∙ t.part.stripes ∙ sym (as_many old new s x y t.was is shapes);
+    number = ap (λ (u : Setup). u.number) setup ∙ t.part.number;
+    shapes = ap (λ (u : Setup). u.shapes) setup ∙ t.part.shapes ∙ sym shapes;
+    few = omega (arith, t.part.few, few, spent);
+  }
+
+  part_other : (q : ℕ) (z : StripeSeen J) (more : ℕ) → new.spent ≡ old.spent + more → IsStripe old q z.core → IsStripe new q z.core
+  part_other q z more spent part = record {
+    rest = part.rest;
+    page_size = part.page_size ∙ sym size;
+    stripes = part.stripes ∙ sym (as_many old new s x y t.was is shapes);
+    number = part.number;
+    shapes = part.shapes ∙ sym shapes;
+    few = omega (arith, part.few, spent);
+  }
+
+  pub sound_on : (more : ℕ) → new.spent ≡ old.spent + more → new.spent ≤ 2 ^ 44 → IsAtRest y.core → y.core.events ≤ x.core.events + more * 65536 → IsSound new
+  sound_on more spent bound rest few = record {
+    groups = λ r shape e. t.sound.groups r shape (sym (ap (λ ss. slice_get ss r) shapes) ∙ e);
+    few = bound;
+    each = λ q z e. elim (cases_eq q s) [
+      | inl here ↦
+          let at : slice_get new.stripes s ≡ Some z = ap (slice_get new.stripes) (sym here) ∙ e in
+          let same : y ≡ z = some_same (sym (slice_set_same old.stripes s x y t.was) ∙ sym (ap (λ (ss : List (StripeSeen J)). slice_get ss s) is) ∙ at) in
+          subst (λ n. IsStripe new n z.core) (sym here) (subst (λ (w : StripeSeen J). IsStripe new s w.core) same (part_on more spent rest few))
+      | inr other ↦
+          part_other q z more spent (t.sound.each q z (sym (slice_set_other old.stripes s q y other) ∙ sym (ap (λ (ss : List (StripeSeen J)). slice_get ss q) is) ∙ e))
+    ];
+  }
+    where
+      some_same : {a b : StripeSeen J} → Some a ≡ Some b → a ≡ b
+      some_same {a} {b} e = ap (from a) e
+        where
+          from : StripeSeen J → Option (StripeSeen J) → StripeSeen J
+          from d None = d
+          from d (Some v) = v
+
+  pub on_stripe : (Does : StripeSeen J → StripeSeen J → Type 0) → Does x y → OnStripe s Does old new
+  on_stripe Does does = record { before = x; after = y; was = t.was; is = is; does = does }
+
+-- no more pages are resident than there are frames
+pub within_of : {J : Type 0} (p : PagerSeen J) → IsSound p → ((h : History Entry) (c : Core) → StandsFor h c → length c.pages + reads_out c ≤ frames_held c) → IsWithin p
+within_of {J} p sound law s c e = go (slice_get p.stripes s) refl e
+  where
+    go : (o : Option (StripeSeen J)) → slice_get p.stripes s ≡ o → core_in o ≡ Some c → length c.pages ≤ quota c.setup
+    go None at e = absurd (cc)
+    go (Some x) at e =
+        let rest = (sound.each s x at).rest in
+        let same : x.core ≡ c = core_same e in
+        subst (λ (d : Core). length d.pages ≤ quota d.setup) same (omega (arith, law rest.history x.core rest.stands))
+      where
+        core_same : {a b : Core} → Some a ≡ Some b → a ≡ b
+        core_same {a} {b} e = ap (from a) e
+          where
+            from : Core → Option Core → Core
+            from d None = d
+            from d (Some v) = v
+
+-- ---- faults
+
+core_of_fault : {J : Type 0} (has_noted : J → History Entry → Type 0) (k : Key) (reasons : Why → Bool) (x y : StripeSeen J) (f : PageFault) → IsAtRest x.core → WriteFails has_noted k reasons (λ j. true) x y f → setup.has_page x.core.setup f.key ≡ true
+core_of_fault has_noted k reasons x y f rest w =
+    subst (λ (u : Setup). setup.has_page u f.key ≡ true) w.went.went.setup (w.went.went.stands rest.history rest.stands).legal.1
+
+module _ {J : Type 0} (has_noted : J → History Entry → Type 0) (k : Key) (reasons : Why → Bool) where
+  pub access_setup : {T : Type 0} (result : Result T PageFault) (last : Entry) (may_owe : Key → Bool) (x y : StripeSeen J) → OnOk result (WentTo has_noted (serves k reasons) last x y)
+      → IfErr result (λ f. AccessFails has_noted k reasons may_owe x y f) → y.core.setup ≡ x.core.setup
+  access_setup (Ok v) last may_owe x y went fails = went.went.setup
+  access_setup (Err f) last may_owe x y went (inl r) = r.went.went.setup
+  access_setup (Err f) last may_owe x y went (inr w) = w.went.went.setup
+
+  -- the fault of a piece of page k, as all pages see it
+  module _ (old new : PagerSeen J) (s : ℕ) (x y : StripeSeen J) (t : Touches old s x) (is : new.stripes ≡ slice_set old.stripes s y) (shapes : new.shapes ≡ old.shapes) (at : s ≡ stripe_at old k) (page : has_page old k ≡ true) where
+    names : (may_owe : Key → Bool) → ((j : Key) → may_owe j ≡ true → (stripe.owes x.core j ≡ true) ⊎ (j ≡ k)) → (f : PageFault) → AccessFails has_noted k reasons may_owe x y f → NamesCount x.core y.core f → NamesFault k old new f
+    names may_owe from f fails count =
+        let found = place f fails in
+        let whose = asked f fails in
+        record {
+          page = found.0;
+          stripe = found.1 ∙ at;
+          whose = elim whose [
+            | inl e ↦ inl e
+            | inr e ↦ inr (owes_was old new s x y t.was is shapes f.key found.1 ∙ e)
+          ];
+          count = count.count ∙ sym (ap (λ q. count_at new q f.key.region) (sym at) ∙ count_here old new s x y t.was is shapes f.key.region);
+          rose = subst (λ n. Rose n f.faults) (sym (ap (λ q. count_at old q f.key.region) (sym at) ∙ count_was old new s x y t.was is shapes f.key.region)) count.rose;
+        }
+      where
+        place : (f : PageFault) → AccessFails has_noted k reasons may_owe x y f → (has_page old f.key ≡ true) × (stripe_at old f.key ≡ s)
+        place f (inl r) = (ap (has_page old) r.key ∙ page, ap (stripe_at old) r.key ∙ sym at)
+        place f (inr w) = pages_of_stripe old s x.core t.part f.key (core_of_fault has_noted k reasons x y f t.part.rest (record { owed = refl; went = w.went }))
+
+        asked : (f : PageFault) → AccessFails has_noted k reasons may_owe x y f → (f.key ≡ k) ⊎ (stripe.owes x.core f.key ≡ true)
+        asked f (inl r) = inl r.key
+        asked f (inr w) = elim (from f.key w.owed) [ inl e ↦ inr e | inr e ↦ inl e ]
+
+    pub names_on : {T : Type 0} (result : Result T PageFault) (may_owe : Key → Bool) → ((j : Key) → may_owe j ≡ true → (stripe.owes x.core j ≡ true) ⊎ (j ≡ k)) → IfErr result (λ f. AccessFails has_noted k reasons may_owe x y f) → IfErr result (λ f. NamesCount x.core y.core f) → IfErr result (λ f. NamesFault k old new f)
+    names_on (Ok v) may_owe from fails count = tt
+    names_on (Err f) may_owe from fails count = names may_owe from f fails count
+
+-- a fact of a result, where another gives it
+pub on_ok : {T E : Type 0} (A B : Type 0) (result : Result T E) → (A → B) → OnOk result A → OnOk result B
+on_ok A B (Ok v) f a = f a
+on_ok A B (Err e) f a = tt
+
+pub on_err : {T E : Type 0} (A B : Type 0) (result : Result T E) → (A → B) → OnErr result A → OnErr result B
+on_err A B (Ok v) f a = tt
+on_err A B (Err e) f a = f a
+
+pub if_err : {T E : Type 0} (A B : E → Type 0) (result : Result T E) → ((e : E) → A e → B e) → IfErr result A → IfErr result B
+if_err A B (Ok v) f a = tt
+if_err A B (Err e) f a = f e a
+
+-- a page that owes or is stored to
+pub with_owed : (c : Core) (k j : Key) → stripe.owes_with c k j ≡ true → (stripe.owes c j ≡ true) ⊎ (j ≡ k)
+with_owed c k j e = elim (or_cases (stripe.owes c j) (same j k) e) [ inl h ↦ inl h | inr h ↦ inr (same-true j k h) ]

@@ -1,0 +1,68 @@
+use Rattle.std.proofs.Common.{◌≡◌, ◌⊎◌, inl, inr, true, false, length, Some, slice_get, refl, sym, ap, ◌∙◌, arith}
+use Rattle.std.proofs.lemmas.Option.{slice_get_read, slice_get_within}
+use Rattle.stripe_core.specs.declared.config.StripeConfig.{StripeConfig}
+use Rattle.serial_pager.specs.Sound.{Flushes}
+use Rattle.serial_pager.proofs.Flushing.{flushing_none, flushing_more, tells}
+use Rattle.serial_pager.proofs.paging.write_stripes.Goals as goal
+use Rattle.serial_pager.proofs.paging.write_stripes.Goals.{then-write_dirty, else-write_dirty}
+
+pub loop-stripe-init : goal.loop-stripe-init
+loop-stripe-init g c = record { flushing = flushing_none g.J.Journal.has_noted c.args.stripes.now.items; config = (c.args.config.now.number, refl) }
+
+pub write_dirty-requires-clause-rest : goal.write_dirty-requires-clause-rest
+write_dirty-requires-clause-rest g c =
+    let i = c.loop-stripe.stripe in
+    let f = c.loop-stripe.invariant.flushing in
+    let here : slice_get c.loop-stripe.stripes.items i ≡ Some c.index_mut.result.now = slice_get_read c.loop-stripe.stripes.items (length c.loop-stripe.stripes.items) i c.index_mut.result.now refl (omega (arith, f.as_many)) c.index_mut.ensures.value in
+    (c.requires.each i c.index_mut.result.now (sym (f.ahead i (omega arith)) ∙ here)).rest
+
+pub write_dirty-requires-clause-few : goal.write_dirty-requires-clause-few
+write_dirty-requires-clause-few g c =
+    let i = c.loop-stripe.stripe in
+    let f = c.loop-stripe.invariant.flushing in
+    let here : slice_get c.loop-stripe.stripes.items i ≡ Some c.index_mut.result.now = slice_get_read c.loop-stripe.stripes.items (length c.loop-stripe.stripes.items) i c.index_mut.result.now refl (omega (arith, f.as_many)) c.index_mut.ensures.value in
+    (c.requires.each i c.index_mut.result.now (sym (f.ahead i (omega arith)) ∙ here)).few
+
+pub write_dirty-requires-clause-scratch : goal.write_dirty-requires-clause-scratch
+write_dirty-requires-clause-scratch g c =
+    let i = c.loop-stripe.stripe in
+    let f = c.loop-stripe.invariant.flushing in
+    let here : slice_get c.loop-stripe.stripes.items i ≡ Some c.index_mut.result.now = slice_get_read c.loop-stripe.stripes.items (length c.loop-stripe.stripes.items) i c.index_mut.result.now refl (omega (arith, f.as_many)) c.index_mut.ensures.value in
+    c.loop-stripe.auto.scratch ∙ sym (c.requires.each i c.index_mut.result.now (sym (f.ahead i (omega arith)) ∙ here)).page_size
+
+pub write_dirty-requires-clause-config : goal.write_dirty-requires-clause-config
+write_dirty-requires-clause-config g c =
+    let i = c.loop-stripe.stripe in
+    let f = c.loop-stripe.invariant.flushing in
+    let here : slice_get c.loop-stripe.stripes.items i ≡ Some c.index_mut.result.now = slice_get_read c.loop-stripe.stripes.items (length c.loop-stripe.stripes.items) i c.index_mut.result.now refl (omega (arith, f.as_many)) c.index_mut.ensures.value in
+    let may = c.requires.each i c.index_mut.result.now (sym (f.ahead i (omega arith)) ∙ here) in
+    let config = c.loop-stripe.invariant.config.1 in
+    record {
+      shapes = ap (λ (k : StripeConfig). k.shapes.items) config ∙ may.shapes;
+      stripes = ap (λ (k : StripeConfig). k.layout.stripes) config ∙ may.stripes;
+      number = sym may.number;
+    }
+
+pub loop-stripe-preserved : goal.loop-stripe-preserved
+loop-stripe-preserved g c =
+    let i = c.loop-stripe.stripe in
+    let f = c.loop-stripe.invariant.flushing in
+    let x = c.index_mut.result.now in
+    let y = c.write_dirty.new.self in
+    let e = c.write_dirty.ensures in
+    let here : slice_get c.loop-stripe.stripes.items i ≡ Some x = slice_get_read c.loop-stripe.stripes.items (length c.loop-stripe.stripes.items) i x refl (omega (arith, f.as_many)) c.index_mut.ensures.value in
+    let flushes : Flushes g.J.Journal.has_noted x y = record { rest = e.rest; few = e.few; held = e.held; entries = e.entries; counts = e.counts; tried = e.tried } in
+    let how : ((c.write_dirty.result ≡ true) × (c.if-write_dirty.failed ≡ true)) ⊎ ((c.write_dirty.result ≡ false) × (c.if-write_dirty.failed ≡ c.loop-stripe.failed)) =
+    elim c.if-write_dirty.branch [ then-write_dirty w ↦ inl (w.if-write_dirty.true, w.failed-is) | else-write_dirty w ↦ inr (w.if-write_dirty.false, w.failed-is) ] in
+    record {
+      flushing = flushing_more g.J.Journal.has_noted c.args.stripes.now.items c.loop-stripe.stripes.items i c.loop-stripe.failed f x y here c.if-write_dirty.failed flushes (tells g.J.Journal.has_noted c.loop-stripe.failed x y c.write_dirty.result flushes e.failed e.stored c.if-write_dirty.failed how);
+      config = (i, ap (λ (k : StripeConfig). record k { number = i }) c.loop-stripe.invariant.config.1);
+    }
+
+pub returns-clause-flushed : goal.returns-clause-flushed
+returns-clause-flushed g c = λ s x y e d. c.loop-stripe.invariant.flushing.done s x y (omega (arith, slice_get_within c.args.stripes.now.items s x e, c.loop-stripe-test.false)) e d
+
+pub returns-clause-stored : goal.returns-clause-stored
+returns-clause-stored g c = λ no s y d r region.
+    let f = c.loop-stripe.invariant.flushing in
+    f.stored no s y (omega (arith, slice_get_within c.loop-stripe.stripes.items s y d, f.as_many, c.loop-stripe-test.false)) d r region

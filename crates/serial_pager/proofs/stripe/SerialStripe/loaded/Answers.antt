@@ -1,0 +1,25 @@
+use Rattle.std.proofs.Common.{ap, refl, subst, sym, ◌∙◌, ◌≡◌}
+use Rattle.page_model.specs.declared.entry.Entry.TheVariants as entry
+use Rattle.page_model.specs.Core.{Core}
+use Rattle.serial_pager.specs.Accesses.{is_read, serves}
+use Rattle.serial_pager.specs.Goings.{WentBy}
+use Rattle.serial_pager.specs.Rests.{IsAtRest}
+use Rattle.serial_pager.proofs.Goes.{seen, went_once}
+use Rattle.serial_pager.proofs.Rests.{rests_alike}
+use Rattle.serial_pager.proofs.stripe.SerialStripe.loaded.Goals as goal
+
+pub returns-in-Hit-clause-rest : goal.returns-in-Hit-clause-rest
+returns-in-Hit-clause-rest g c =
+    let rest : IsAtRest c.self.inside.stripe = subst IsAtRest (ap (λ v. v.core) (sym c.self.view_is)) c.requires.rest in
+    rests_alike c.self.inside.stripe c.load.new.self _ rest (c.in-Hit.ensures.stands refl rest.history 0 rest.stands) c.in-Hit.ensures.fixed (ap (λ (x : Core). x.regions) (c.in-Hit.ensures.step refl))
+
+pub returns-in-Hit-clause-went : goal.returns-in-Hit-clause-went
+returns-in-Hit-clause-went g c = λ _.
+    went_once g.J.Journal.has_noted (entry.Load c.args.key c.args.place c.load.new.buf) c.self.inside.stripe c.load.new.self c.self.inside.journal c.note.new.self c.args.self.now c.self.view_is
+    c.in-Hit.ensures.fixed (ap (λ (x : Core). x.events) (c.in-Hit.ensures.step refl)) (c.in-Hit.ensures.stands refl) c.note.ensures.noted
+
+pub returns-in-Missing-clause-before : goal.returns-in-Missing-clause-before
+returns-in-Missing-clause-before g c = λ _.
+    let still : c.load.new.self ≡ c.self.inside.stripe = c.in-Missing.ensures.same (λ e. cc) in
+    let now = ap (λ (x : Core). seen g.J.Journal.has_noted x c.self.inside.journal) still ∙ c.self.view_is in
+    subst (λ v. WentBy g.J.Journal.has_noted (serves c.args.key is_read) v c.raise.new.self) now (c.raise.ensures.went is_read refl)

@@ -1,0 +1,9 @@
+pub mod Seen
+pub mod Holdings
+pub mod Rests
+pub mod Goings
+pub mod Accesses
+pub mod Writings
+pub mod Services
+pub mod Pagers
+pub mod Sound

@@ -1,0 +1,190 @@
+-- What contracts see of a pager: its stripes, and what its pages hold whatever stripe they are in.
+use Rattle.std.specs.Prelude.{◌≡◌, ℕ, ◌+◌, ◌<◌, ◌≤◌, ◌⊎◌, Bool, true, false, nat_lt, List, length, map, slice_get, slice_set, Option, Some, None, IfSome, option_map}
+use Rattle.page_base.specs.declared.keys.Key.{Key}
+use Rattle.page_base.specs.declared.keys.RegionShape.{RegionShape}
+use Rattle.page_base.specs.Lanes.{LaneSeen, Rose}
+use Rattle.page_base.specs.Pages.{stripe_of}
+use Rattle.page_model.specs.Setups.{Setup, quota, told_by, count_by, origin_of}
+use Rattle.page_model.specs.Core.{Core}
+use Rattle.page_model.specs.Readers.{IsHere}
+use Rattle.page_model.specs.Steps.{fresh}
+use Rattle.stripe_core.specs.declared.config.StripeConfig.{StripeConfig}
+use Rattle.stripe_core.specs.Configs.{setup_of, CanMake}
+use Rattle.store_trait.specs.declared.mem_store.LaneSet.{LaneSet}
+use Rattle.page_base.specs.ListSeen.{ListSeen}
+use Rattle.serial_pager.specs.declared.fault.PageFault.{PageFault}
+use Rattle.serial_pager.specs.declared.pager.PagerConfig.{PagerConfig}
+use Rattle.serial_pager.specs.Seen.{StripeSeen}
+use Rattle.serial_pager.specs.Holdings as stripe
+
+-- the stripes in order of number; `spent` counts the pieces that were loaded or stored, and writing all dirty pages as 64 of them
+pub record PagerSeen (J : Type 0) : Type 0 where
+  pub page_size : ℕ
+  pub shapes : List RegionShape  -- by the region's number
+  pub stripes : List (StripeSeen J)
+  pub spent : ℕ
+
+-- for each stripe, what is seen of its lanes, in order of region
+abbrev pub rows_by : {S : Type 0} → (S → LaneSeen) → List (ListSeen S) → List (List LaneSeen)
+rows_by seen stripes = map (λ row. map seen row.items) stripes
+
+abbrev pub rows_of : {S : Type 0} → (S → LaneSeen) → LaneSet S → List (List LaneSeen)
+rows_of seen lanes = rows_by seen lanes.stripes.items
+
+-- the configuration of one stripe
+abbrev pub config_of : PagerConfig → ℕ → StripeConfig
+config_of c number = record { layout = c.layout; number = number; faults = c.faults; high = c.high; low = c.low; shapes = c.shapes }
+
+-- there are lanes and a journal for each stripe, and each stripe may be made with its lanes
+pub record CanOpen (c : PagerConfig) (rows : List (List LaneSeen)) (noted : ℕ) : Type 0 where
+  pub stripes : length rows ≡ c.layout.stripes
+  pub journals : noted ≡ c.layout.stripes
+  pub each : (s : ℕ) (row : List LaneSeen) → slice_get rows s ≡ Some row → CanMake (config_of c s) row
+
+abbrev pub group_in : Option RegionShape → ℕ
+group_in None = 1
+group_in (Some shape) = shape.group
+
+abbrev pub page_in : Option RegionShape → ℕ → Bool
+page_in None page = false
+page_in (Some shape) page = nat_lt page shape.pages
+
+abbrev pub may_store : Option RegionShape → Bool
+may_store None = false
+may_store (Some shape) = shape.writable
+
+abbrev pub core_in : {J : Type 0} → Option (StripeSeen J) → Option Core
+core_in None = None
+core_in (Some x) = Some x.core
+
+abbrev pub held_in : Option Core → Key → Option (List ℕ)
+held_in None k = None
+held_in (Some c) k = stripe.held c k
+
+abbrev pub kept_in : Option Core → Key → Option (List ℕ)
+kept_in None k = None
+kept_in (Some c) k = stripe.told c k
+
+abbrev pub owes_in : Option Core → Key → Bool
+owes_in None k = false
+owes_in (Some c) k = stripe.owes c k
+
+abbrev pub count_in : Option Core → ℕ → ℕ
+count_in None r = 0
+count_in (Some c) r = stripe.count_at c r
+
+-- these lanes are the ones that one stripe has at home
+pub record AreLanesOf (c : Core) (row : List LaneSeen) : Type 0 where
+  pub count : length row ≡ length c.setup.shapes
+  pub here : (r : ℕ) (lane : LaneSeen) → slice_get row r ≡ Some lane → IsHere c r lane
+  pub origin : (r : ℕ) (lane : LaneSeen) → slice_get row r ≡ Some lane → origin_of c.setup r ≡ Some lane.origin
+
+module _ {J : Type 0} where
+  abbrev pub core_at : PagerSeen J → ℕ → Option Core
+  core_at p s = core_in (slice_get p.stripes s)
+
+  -- the key names a page of one of the regions
+  abbrev pub has_page : PagerSeen J → Key → Bool
+  has_page p k = page_in (slice_get p.shapes k.region) k.page
+
+  -- the region may be stored to
+  abbrev pub is_writable : PagerSeen J → ℕ → Bool
+  is_writable p r = may_store (slice_get p.shapes r)
+
+  -- the stripe of a page
+  abbrev pub stripe_at : PagerSeen J → Key → ℕ
+  stripe_at p k = stripe_of (length p.stripes) (group_in (slice_get p.shapes k.region)) k.region k.page
+
+  -- what a page holds, none where its lane didn't tell it at the start
+  abbrev pub held : PagerSeen J → Key → Option (List ℕ)
+  held p k = held_in (core_at p (stripe_at p k)) k
+
+  -- what its lane tells of a page
+  abbrev pub kept : PagerSeen J → Key → Option (List ℕ)
+  kept p k = kept_in (core_at p (stripe_at p k)) k
+
+  -- the page may have to be written
+  abbrev pub owes : PagerSeen J → Key → Bool
+  owes p k = owes_in (core_at p (stripe_at p k)) k
+
+  -- the faults that one stripe's lane of a region counts
+  abbrev pub count_at : PagerSeen J → (stripe region : ℕ) → ℕ
+  count_at p s r = count_in (core_at p s) r
+
+  -- no more pages are resident in a stripe than it has frames
+  abbrev pub IsWithin : PagerSeen J → Type 0
+  IsWithin p = (s : ℕ) (c : Core) → core_at p s ≡ Some c → length c.pages ≤ quota c.setup
+
+  -- a piece in one page that lies in the region
+  pub record IsPiece (p : PagerSeen J) (k : Key) (place len : ℕ) : Type 0 where
+    pub page : has_page p k ≡ true
+    pub some : 0 < len
+    pub within : place + len ≤ p.page_size
+
+  -- what a stripe was made with
+  abbrev pub setup_at : PagerSeen J → ℕ → Option Setup
+  setup_at p s = option_map (λ (c : Core). c.setup) (core_at p s)
+
+  -- the same regions, and the same stripes as they were made
+  pub record IsSame (old new : PagerSeen J) : Type 0 where
+    pub page_size : new.page_size ≡ old.page_size
+    pub shapes : new.shapes ≡ old.shapes
+    pub stripes : length new.stripes ≡ length old.stripes
+    pub setups : (s : ℕ) → setup_at new s ≡ setup_at old s
+
+  -- one stripe changed in this way, and the others are as they were
+  pub record OnStripe (s : ℕ) (Does : StripeSeen J → StripeSeen J → Type 0) (old new : PagerSeen J) : Type 0 where
+    pub before : StripeSeen J
+    pub after : StripeSeen J
+    pub was : slice_get old.stripes s ≡ Some before
+    pub is : new.stripes ≡ slice_set old.stripes s after
+    pub does : Does before after
+
+  -- each page holds what it held
+  abbrev pub HoldsSame : (old new : PagerSeen J) → Type 0
+  HoldsSame old new = (k : Key) → has_page old k ≡ true → held new k ≡ held old k
+
+  -- no lane's count fell
+  abbrev pub CountsGrow : (old new : PagerSeen J) → Type 0
+  CountsGrow old new = (s r : ℕ) → count_at old s r ≤ count_at new s r
+
+  -- The fault is of the page that was asked for, or of a page of its stripe that might have to be written; the page's lane
+  -- counts it
+  pub record NamesFault (k : Key) (old new : PagerSeen J) (f : PageFault) : Type 0 where
+    pub page : has_page old f.key ≡ true
+    pub stripe : stripe_at old f.key ≡ stripe_at old k
+    pub whose : (f.key ≡ k) ⊎ (owes old f.key ≡ true)
+    pub count : f.faults ≡ count_at new (stripe_at old k) f.key.region
+    pub rose : Rose (count_at old (stripe_at old k) f.key.region) f.faults
+
+  -- a lane counts more faults than before
+  abbrev pub RoseAt : (old new : PagerSeen J) → (stripe region : ℕ) → Type 0
+  RoseAt old new s r = Rose (count_at old s r) (count_at new s r)
+
+  -- a stripe's lanes tell what each page of the region holds
+  abbrev pub IsKept : PagerSeen J → (stripe region : ℕ) → Type 0
+  IsKept p s r = (k : Key) → k.region ≡ r → has_page p k ≡ true → stripe_at p k ≡ s → IfSome (held p k) (λ bytes. kept p k ≡ Some bytes)
+
+  -- or a write of one of them failed
+  abbrev pub IsTried : (old new : PagerSeen J) → (stripe region : ℕ) → Type 0
+  IsTried old new s r = RoseAt old new s r ⊎ IsKept new s r
+
+  pub record AreRowsOf (p : PagerSeen J) (rows : List (List LaneSeen)) : Type 0 where
+    pub count : length rows ≡ length p.stripes
+    pub each : (s : ℕ) (row : List LaneSeen) (c : Core) → slice_get rows s ≡ Some row → core_at p s ≡ Some c → AreLanesOf c row
+
+  -- the stripe has just been made with these lanes
+  pub record IsMade (c : PagerConfig) (s : ℕ) (row : List LaneSeen) (first : J) (x : StripeSeen J) : Type 0 where
+    pub core : x.core ≡ fresh (setup_of (config_of c s) row)
+    pub journal : x.journal ≡ first
+
+  pub record IsOpened (c : PagerConfig) (rows : List (List LaneSeen)) (journals : List J) (p : PagerSeen J) : Type 0 where
+    pub page_size : p.page_size ≡ c.layout.page_size
+    pub shapes : p.shapes ≡ c.shapes.items
+    pub stripes : length p.stripes ≡ c.layout.stripes
+    pub spent : p.spent ≡ 0
+    pub each : (s : ℕ) (row : List LaneSeen) (journal : J) (x : StripeSeen J) → slice_get rows s ≡ Some row → slice_get journals s ≡ Some journal
+        → slice_get p.stripes s ≡ Some x → IsMade c s row journal x
+    pub holds : (k : Key) (row : List LaneSeen) → slice_get rows (stripe_at p k) ≡ Some row → held p k ≡ told_by (slice_get row k.region) k.page
+    pub owes : (k : Key) → owes p k ≡ false
+    pub counts : (s r : ℕ) (row : List LaneSeen) → slice_get rows s ≡ Some row → count_at p s r ≡ count_by (slice_get row r)

@@ -1,0 +1,172 @@
+//! Loads and stores of a part of one page, with the page faults that they make.
+ghost use Rattle.std.specs.Prelude.{◌≡◌, ℕ, ◌+◌, ◌≤◌, ◌^◌, ◌<◌, [], ◌∷◌, true, false, length, slice_range, OnOk, OnErr, IfErr, IfSome, option_map};
+ghost use Rattle.page_base.specs.declared.keys.Key.{Key};
+ghost use Rattle.page_base.specs.ListSeen.{spliced};
+ghost use Rattle.page_model.specs.declared.entry.Entry.TheVariants as entry;
+ghost use Rattle.page_model.specs.Events.{InPage};
+ghost use Rattle.page_model.specs.Core.{is_present};
+ghost use Rattle.page_model.specs.Setups.{has_page, is_writable};
+ghost use Rattle.page_model.specs.Steps as step;
+ghost use Rattle.stripe_core.specs.Answers.{GivesBytes};
+ghost use Rattle.serial_pager.specs.Accesses.{serves, is_read, NamesCount, AccessFails};
+ghost use Rattle.serial_pager.specs.Goings.{Went, WentBy, WentTo};
+ghost use Rattle.serial_pager.specs.Holdings.{held, owes, owes_with, is_for_store, CountsGrow, HoldsSame};
+ghost use Rattle.serial_pager.specs.Rests.{IsAtRest};
+ghost use Rattle.serial_pager.specs.Services.{Raises, is_shut, why_shut};
+
+use crate::fault::PageFault;
+use crate::stripe::SerialStripe;
+use page_base::{Key, Why};
+use page_model::{Journal, Note};
+use store_trait::Store;
+use stripe_core::Look;
+
+impl<S: Store, J: Journal> SerialStripe<S, J> {
+    /// Reads a part of a page into `buf`, from byte `place` of the page on, by way of one scratch page. After a fault of the
+    /// store nothing was read.
+    pub fn load(
+        &mut self,
+        scratch: &mut [u8],
+        key: Key,
+        place: u32,
+        buf: &mut [u8],
+    ) -> Result<(), PageFault>
+        requires rest { IsAtRest self.old.core }
+        requires few { self.old.core.events + 2 ^ 16 ≤ 2 ^ 62 }
+        requires scratch { length scratch.old ≡ self.old.core.setup.page_size }
+        requires in_page { InPage self.old.core.setup key place (length buf.old) }
+        ensures rest { IsAtRest self.new.core }
+        ensures fixed { self.new.core.setup ≡ self.old.core.setup }
+        ensures made { J.made_with self.new.journal ≡ J.made_with self.old.journal }
+        ensures few { self.new.core.events ≤ self.old.core.events + 2 ^ 16 }
+
+        // what the pages hold
+        ensures bytes { OnOk result (IfSome (held self.old.core key) (λ page. buf.new ≡ slice_range page place (place + length buf.new))) }
+        ensures untouched { OnErr result (buf.new ≡ buf.old) }
+        ensures held { HoldsSame self.old.core self.new.core }
+        ensures owes { (j : Key) → owes self.new.core j ≡ true → owes self.old.core j ≡ true }
+
+        // the entries, and the store's faults
+        ensures ok { OnOk result (WentTo J.has_noted (serves key is_read) (entry.Load key place buf.new) self.old self.new) }
+        ensures err { IfErr result (λ f. AccessFails J.has_noted key is_read (owes self.old.core) self.old self.new f) }
+        ensures fault { IfErr result (λ f. NamesCount self.old.core self.new.core f) }
+        ensures counts { CountsGrow self.old.core self.new.core }
+    {
+        while !self.loaded(key, place, buf) {
+            match self.serve(scratch, key) {
+                Ok(()) => {}
+                Err(fault) => return Err(fault),
+            }
+        }
+        Ok(())
+    }
+
+    /// Writes `bytes` over a part of a page, from byte `place` of the page on, by way of one scratch page. After a fault of the
+    /// store nothing was written.
+    pub fn store(
+        &mut self,
+        scratch: &mut [u8],
+        key: Key,
+        place: u32,
+        bytes: &[u8],
+    ) -> Result<(), PageFault>
+        requires rest { IsAtRest self.old.core }
+        requires few { self.old.core.events + 2 ^ 16 ≤ 2 ^ 62 }
+        requires scratch { length scratch.old ≡ self.old.core.setup.page_size }
+        requires in_page { InPage self.old.core.setup key place (length bytes.now) }
+        requires writable { is_writable self.old.core.setup key.region ≡ true }
+        ensures rest { IsAtRest self.new.core }
+        ensures fixed { self.new.core.setup ≡ self.old.core.setup }
+        ensures made { J.made_with self.new.journal ≡ J.made_with self.old.journal }
+        ensures few { self.new.core.events ≤ self.old.core.events + 2 ^ 16 }
+
+        // what the pages hold
+        ensures bytes { OnOk result (held self.new.core key ≡ option_map (λ page. spliced page place bytes.now) (held self.old.core key)) }
+        ensures others { OnOk result ((j : Key) → has_page self.old.core.setup j ≡ true → (j ≡ key → ⊥) → held self.new.core j ≡ held self.old.core j) }
+        ensures untouched { OnErr result (HoldsSame self.old.core self.new.core) }
+        ensures owes { (j : Key) → owes self.new.core j ≡ true → owes_with self.old.core key j ≡ true }
+
+        // the entries, and the store's faults
+        ensures ok { OnOk result (WentTo J.has_noted (serves key is_for_store) (entry.Save key place bytes.now) self.old self.new) }
+        ensures err { IfErr result (λ f. AccessFails J.has_noted key is_for_store (owes_with self.old.core key) self.old self.new f) }
+        ensures fault { IfErr result (λ f. NamesCount self.old.core self.new.core f) }
+        ensures counts { CountsGrow self.old.core self.new.core }
+    {
+        while !self.saved(key, place, bytes) {
+            match self.serve(scratch, key) {
+                Ok(()) => {}
+                Err(fault) => return Err(fault),
+            }
+        }
+        Ok(())
+    }
+
+    /// Loads where the page is resident. Where it isn't, it waits from now on to be read in.
+    fn loaded(&mut self, key: Key, place: u32, buf: &mut [u8]) -> bool
+        requires rest { IsAtRest self.old.core }
+        requires few { self.old.core.events < 2 ^ 62 }
+        requires in_page { InPage self.old.core.setup key place (length buf.old) }
+        ensures rest { IsAtRest self.new.core }
+        ensures made { J.made_with self.new.journal ≡ J.made_with self.old.journal }
+        ensures step { result ≡ true → self.new.core ≡ step.load self.old.core }
+        ensures bytes { result ≡ true → GivesBytes self.old.core key place buf.new }
+        ensures went { result ≡ true → Went J.has_noted (entry.Load key place buf.new ∷ []) self.old self.new }
+        ensures untouched { result ≡ false → buf.new ≡ buf.old }
+        ensures raises { result ≡ false → Raises key Why.Read self.old.core self.new.core }
+        ensures missed { result ≡ false → is_present self.new.core key ≡ false }
+        ensures waits { result ≡ false → 0 < length self.new.core.queue }
+        ensures before { result ≡ false → WentBy J.has_noted (serves key is_read) self.old self.new }
+    {
+        match self.stripe.load(key, place, buf) {
+            Look::Hit => {
+                self.journal.note(
+                    0,
+                    &Note::Load {
+                        key,
+                        place,
+                        bytes: buf,
+                    },
+                );
+                true
+            }
+            Look::Missing => {
+                self.raise(key, Why::Read);
+                false
+            }
+            Look::Protected | Look::Closed => unreachable!(),
+        }
+    }
+
+    /// Stores where the page is resident and open to stores. Where it isn't, it waits from now on to be read in or opened.
+    fn saved(&mut self, key: Key, place: u32, bytes: &[u8]) -> bool
+        requires rest { IsAtRest self.old.core }
+        requires few { self.old.core.events < 2 ^ 62 }
+        requires in_page { InPage self.old.core.setup key place (length bytes.now) }
+        requires writable { is_writable self.old.core.setup key.region ≡ true }
+        ensures rest { IsAtRest self.new.core }
+        ensures made { J.made_with self.new.journal ≡ J.made_with self.old.journal }
+        ensures step { result ≡ true → self.new.core ≡ step.save self.old.core key place bytes.now }
+        ensures hit { result ≡ true → is_shut self.old.core key ≡ false }
+        ensures went { result ≡ true → Went J.has_noted (entry.Save key place bytes.now ∷ []) self.old self.new }
+        ensures raises { result ≡ false → Raises key (why_shut self.old.core key) self.old.core self.new.core }
+        ensures missed { result ≡ false → is_shut self.new.core key ≡ true }
+        ensures waits { result ≡ false → 0 < length self.new.core.queue }
+        ensures before { result ≡ false → WentBy J.has_noted (serves key is_for_store) self.old self.new }
+    {
+        match self.stripe.save(key, place, bytes) {
+            Look::Hit => {
+                self.journal.note(0, &Note::Save { key, place, bytes });
+                true
+            }
+            Look::Missing => {
+                self.raise(key, Why::Write);
+                false
+            }
+            Look::Protected => {
+                self.raise(key, Why::Protected);
+                false
+            }
+            Look::Closed => unreachable!(),
+        }
+    }
+}

@@ -1,0 +1,231 @@
+//! The services of a stripe, one for each kind of what may be next. Each makes its entries and leaves every lane home.
+ghost use Rattle.std.specs.Prelude.{◌≡◌, ℕ, ◌+◌, ◌≤◌, ◌<◌, ◌^◌, ◌⊎◌, Bool, List, [], ◌∷◌, true, false, length, OnOk, IfErr};
+ghost use Rattle.page_base.specs.declared.keys.Key.{Key};
+ghost use Rattle.page_base.specs.declared.keys.Why.{Why};
+ghost use Rattle.page_model.specs.declared.entry.Entry.TheVariants as entry;
+ghost use Rattle.page_model.specs.declared.entry.Cause.TheVariants.{Pressure};
+ghost use Rattle.page_model.specs.declared.seen.Next.TheVariants as serve;
+ghost use Rattle.page_model.specs.Core.{next, is_dirty};
+ghost use Rattle.page_model.specs.Events.{CanRaiseFor, CanStartWrite, CanEvict};
+ghost use Rattle.page_model.specs.Setups.{has_page};
+ghost use Rattle.page_model.specs.Steps as step;
+ghost use Rattle.serial_pager.specs.Accesses.{serves, AccessFails};
+ghost use Rattle.serial_pager.specs.Goings.{Went, WentBy};
+ghost use Rattle.serial_pager.specs.Rests.{IsAtRest};
+ghost use Rattle.serial_pager.specs.Services.{Drops, Opens, Fills, Misses, Writes, FailsToWrite, Cleans, FailsToClean, Evicts, Raises, Serves, Faults};
+
+use crate::fault::PageFault;
+use crate::stripe::SerialStripe;
+use page_base::{Key, Why};
+use page_model::{Cause, Journal, Next, Note};
+use store_trait::Store;
+use stripe_core::Raise;
+
+impl<S: Store, J: Journal> SerialStripe<S, J> {
+    /// Lets a page wait, unless it waits already or no further one may.
+    pub(crate) fn raise(&mut self, key: Key, why: Why)
+        requires rest { IsAtRest self.old.core }
+        requires few { self.old.core.events < 2 ^ 62 }
+        requires page { has_page self.old.core.setup key ≡ true }
+        requires fits { CanRaiseFor self.old.core key why }
+        ensures rest { IsAtRest self.new.core }
+        ensures made { J.made_with self.new.journal ≡ J.made_with self.old.journal }
+        ensures waits { 0 < length self.new.core.queue }
+        ensures steps { Raises key why self.old.core self.new.core }
+        ensures went { (reasons : Why → Bool) → reasons why ≡ true → WentBy J.has_noted (serves key reasons) self.old self.new }
+    {
+        match self.stripe.raise(key, why) {
+            Raise::Raised => self.journal.note(0, &Note::Raised { key, why }),
+            Raise::Pending | Raise::QueueFull => {}
+        }
+    }
+
+    /// Serves one fault that waits, or makes room for it. Where a read of page `key` fails, or a write, that is the answer.
+    pub(crate) fn serve(&mut self, scratch: &mut [u8], key: Key) -> Result<(), PageFault>
+        requires rest { IsAtRest self.old.core }
+        requires few { self.old.core.events + 2 ≤ 2 ^ 62 }
+        requires scratch { length scratch.old ≡ self.old.core.setup.page_size }
+        requires waits { 0 < length self.old.core.queue }
+        ensures rest { IsAtRest self.new.core }
+        ensures made { J.made_with self.new.journal ≡ J.made_with self.old.journal }
+        ensures steps { OnOk result (Serves key self.old.core self.new.core) }
+        ensures went { OnOk result ((reasons : Why → Bool) → WentBy J.has_noted (serves key reasons) self.old self.new) }
+        ensures fault { IfErr result (λ f. Faults key self.old.core self.new.core f) }
+        ensures ends { IfErr result (λ f. (reasons : Why → Bool) → AccessFails J.has_noted key reasons (is_dirty self.old.core) self.old self.new f) }
+    {
+        match self.stripe.next() {
+            Next::Drop(_) => {
+                self.drop_raise();
+                Ok(())
+            }
+            Next::Open(_) => {
+                self.open_page();
+                Ok(())
+            }
+            Next::Read(_) => self.read_for(scratch, key),
+            Next::Room => self.make_room(scratch),
+            Next::Nothing => unreachable!(),
+        }
+    }
+
+    fn drop_raise(&mut self)
+        requires rest { IsAtRest self.old.core }
+        requires few { self.old.core.events < 2 ^ 62 }
+        requires next { (k : Key) × (next self.old.core ≡ serve.Drop k) }
+        ensures rest { IsAtRest self.new.core }
+        ensures made { J.made_with self.new.journal ≡ J.made_with self.old.journal }
+        ensures steps { Drops self.old.core self.new.core }
+        ensures went { (k : Key) × Went J.has_noted (entry.Dropped k ∷ []) self.old self.new }
+    {
+        let key = self.stripe.drop_raise();
+        self.journal.note(0, &Note::Dropped { key });
+    }
+
+    fn open_page(&mut self)
+        requires rest { IsAtRest self.old.core }
+        requires few { self.old.core.events < 2 ^ 62 }
+        requires next { (k : Key) × (next self.old.core ≡ serve.Open k) }
+        ensures rest { IsAtRest self.new.core }
+        ensures made { J.made_with self.new.journal ≡ J.made_with self.old.journal }
+        ensures steps { Opens self.old.core self.new.core }
+        ensures went { (k : Key) × Went J.has_noted (entry.Opened k ∷ []) self.old self.new }
+    {
+        let key = self.stripe.open_page();
+        self.journal.note(0, &Note::Opened { key });
+    }
+
+    /// Reads in the page that is next. A fault of another page than `key` is nobody's now.
+    fn read_for(&mut self, scratch: &mut [u8], key: Key) -> Result<(), PageFault>
+        requires rest { IsAtRest self.old.core }
+        requires few { self.old.core.events + 2 ≤ 2 ^ 62 }
+        requires scratch { length scratch.old ≡ self.old.core.setup.page_size }
+        requires next { (k : Key) × (next self.old.core ≡ serve.Read k) }
+        ensures rest { IsAtRest self.new.core }
+        ensures made { J.made_with self.new.journal ≡ J.made_with self.old.journal }
+        ensures steps { OnOk result (Serves key self.old.core self.new.core) }
+        ensures went { OnOk result ((reasons : Why → Bool) → WentBy J.has_noted (serves key reasons) self.old self.new) }
+        ensures fault { IfErr result (λ f. Faults key self.old.core self.new.core f) }
+        ensures ends { IfErr result (λ f. (reasons : Why → Bool) → AccessFails J.has_noted key reasons (is_dirty self.old.core) self.old self.new f) }
+    {
+        match self.read_in(scratch) {
+            Err(fault) if fault.key == key => Err(fault),
+            _ => Ok(()),
+        }
+    }
+
+    /// Reads in the page that is next.
+    fn read_in(&mut self, scratch: &mut [u8]) -> Result<(), PageFault>
+        requires rest { IsAtRest self.old.core }
+        requires few { self.old.core.events + 2 ≤ 2 ^ 62 }
+        requires scratch { length scratch.old ≡ self.old.core.setup.page_size }
+        requires next { (k : Key) × (next self.old.core ≡ serve.Read k) }
+        ensures rest { IsAtRest self.new.core }
+        ensures made { J.made_with self.new.journal ≡ J.made_with self.old.journal }
+        ensures steps { OnOk result (Fills self.old.core self.new.core) }
+        ensures went { OnOk result ((k : Key) × Went J.has_noted (entry.Filled k ∷ entry.StartRead k ∷ []) self.old self.new) }
+        ensures fault { IfErr result (λ f. Misses self.old.core self.new.core f) }
+        ensures ends { IfErr result (λ f. Went J.has_noted (entry.ReadFailed f.key f.faults ∷ entry.StartRead f.key ∷ []) self.old self.new) }
+    {
+        let mut trip = self.stripe.start_read();
+        let key = trip.key();
+        self.journal.note(0, &Note::StartRead { key });
+        let place = u64::from(key.page) * scratch.len() as u64;
+        match trip.lane().read_from_store(scratch, place) {
+            Ok(()) => {
+                self.stripe.filled(trip, scratch);
+                self.journal.note(0, &Note::Filled { key });
+                Ok(())
+            }
+            Err(_) => {
+                let faults = trip.faults();
+                self.stripe.read_failed(trip);
+                self.journal.note(0, &Note::ReadFailed { key, n: faults });
+                Err(PageFault { key, faults })
+            }
+        }
+    }
+
+    /// Makes room for a read: writes the pick back where it is dirty, else evicts it.
+    fn make_room(&mut self, scratch: &mut [u8]) -> Result<(), PageFault>
+        requires rest { IsAtRest self.old.core }
+        requires few { self.old.core.events + 2 ≤ 2 ^ 62 }
+        requires scratch { length scratch.old ≡ self.old.core.setup.page_size }
+        requires waits { 0 < length self.old.core.queue }
+        requires next { next self.old.core ≡ serve.Room }
+        ensures rest { IsAtRest self.new.core }
+        ensures made { J.made_with self.new.journal ≡ J.made_with self.old.journal }
+        ensures steps { OnOk result (Cleans self.old.core self.new.core ⊎ Evicts self.old.core self.new.core) }
+        ensures went { OnOk result ((k : Key) (reasons : Why → Bool) → WentBy J.has_noted (serves k reasons) self.old self.new) }
+        ensures fault { IfErr result (λ f. FailsToClean self.old.core self.new.core f) }
+        ensures ends { IfErr result (λ f. Went J.has_noted (entry.WriteFailed f.key f.faults ∷ entry.StartWrite f.key Pressure ∷ []) self.old self.new) }
+    {
+        match self.stripe.pick() {
+            Some(pick) if pick.dirty => self.write_out(scratch, pick.key, Cause::Pressure),
+            Some(pick) => {
+                self.evict(pick.key);
+                Ok(())
+            }
+            None => unreachable!(),
+        }
+    }
+
+    /// Writes a dirty page back.
+    pub(crate) fn write_out(
+        &mut self,
+        scratch: &mut [u8],
+        key: Key,
+        why: Cause,
+    ) -> Result<(), PageFault>
+        requires rest { IsAtRest self.old.core }
+        requires few { self.old.core.events + 2 ≤ 2 ^ 62 }
+        requires scratch { length scratch.old ≡ self.old.core.setup.page_size }
+        requires page { has_page self.old.core.setup key ≡ true }
+        requires can { CanStartWrite self.old.core key why }
+        ensures rest { IsAtRest self.new.core }
+        ensures made { J.made_with self.new.journal ≡ J.made_with self.old.journal }
+        ensures steps { OnOk result (Writes key self.old.core self.new.core) }
+        ensures went { OnOk result ((at : ℕ) × (bytes : List ℕ) × Went J.has_noted (entry.Written key at bytes ∷ entry.StartWrite key why ∷ []) self.old self.new) }
+        ensures fault { IfErr result (λ f. FailsToWrite key self.old.core self.new.core f) }
+        ensures ends { IfErr result (λ f. Went J.has_noted (entry.WriteFailed key f.faults ∷ entry.StartWrite key why ∷ []) self.old self.new) }
+    {
+        let mut trip = self.stripe.start_write(key, why, scratch);
+        self.journal.note(0, &Note::StartWrite { key, why });
+        let at = trip.at();
+        let place = u64::from(key.page) * scratch.len() as u64;
+        match trip.lane().write_to_store(scratch, place) {
+            Ok(()) => {
+                self.stripe.written(trip, scratch);
+                self.journal.note(
+                    0,
+                    &Note::Written {
+                        key,
+                        at,
+                        bytes: scratch,
+                    },
+                );
+                Ok(())
+            }
+            Err(_) => {
+                let faults = trip.faults();
+                self.stripe.write_failed(trip);
+                self.journal.note(0, &Note::WriteFailed { key, n: faults });
+                Err(PageFault { key, faults })
+            }
+        }
+    }
+
+    fn evict(&mut self, key: Key)
+        requires rest { IsAtRest self.old.core }
+        requires few { self.old.core.events < 2 ^ 62 }
+        requires page { has_page self.old.core.setup key ≡ true }
+        requires can { CanEvict self.old.core key Pressure }
+        ensures rest { IsAtRest self.new.core }
+        ensures made { J.made_with self.new.journal ≡ J.made_with self.old.journal }
+        ensures step { self.new.core ≡ step.evict self.old.core key }
+        ensures went { Went J.has_noted (entry.Evicted key Pressure ∷ []) self.old self.new }
+    {
+        let why = Cause::Pressure;
+        self.stripe.evict(key, why);
+        self.journal.note(0, &Note::Evicted { key, why });
+    }
+}

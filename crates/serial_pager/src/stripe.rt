@@ -1,0 +1,60 @@
+//! A stripe that one thread serves, with the journal of its entries.
+//!
+//! What must stay true when this file is changed: each event of the stripe is noted in the journal, in order, as made by
+//! owner 0.
+ghost use Rattle.std.specs.Prelude.{◌≡◌, ℕ, ◌<◌, false, length, slice_get, Some};
+ghost use Rattle.histories.specs.Histories.{History};
+ghost use Rattle.page_base.specs.declared.keys.Key.{Key};
+ghost use Rattle.page_model.specs.declared.entry.Entry.{Entry};
+ghost use Rattle.page_model.specs.Readers.{IsHere};
+ghost use Rattle.page_model.specs.Setups.{regions, has_page, base_of, first_count};
+ghost use Rattle.page_model.specs.Stands.{StandsFor, HomeLane};
+ghost use Rattle.serial_pager.specs.Holdings.{held, owes, count_at};
+ghost use Rattle.serial_pager.specs.Rests.{IsAtRest, IsFresh};
+
+use page_base::List;
+use page_model::Journal;
+use std::marker::Model;
+use store_trait::Store;
+use stripe_core::Stripe;
+
+/// One stripe and its journal. Contracts see the stripe's data and the journal (`specs/Seen.antt`).
+pub struct SerialStripe<S: Store, J: Journal> {
+    pub(crate) stripe: Stripe<S>,
+    pub(crate) journal: J,
+}
+
+impl<S: Store, J: Journal> Model for SerialStripe<S, J> {
+    ghost use Rattle.serial_pager.specs.Seen.{StripeSeen};
+
+    ghost Value = { StripeSeen J };
+
+    ghost view = { λ s. record { core = s.stripe; journal = s.journal } };
+}
+
+impl<S: Store, J: Journal> SerialStripe<S, J> {
+    /// Takes over a stripe that has just been made. Nothing has to be written, and each page holds what its lane tells.
+    pub fn new(stripe: Stripe<S>, journal: J) -> SerialStripe<S, J>
+        requires fresh { IsFresh stripe }
+        ensures core { result.core ≡ stripe }
+        ensures journal { result.journal ≡ journal }
+        ensures rest { IsAtRest result.core }
+        ensures owes { (k : Key) → owes result.core k ≡ false }
+        ensures held { (k : Key) → held result.core k ≡ base_of result.core.setup k }
+        ensures counts { (r : ℕ) → count_at result.core r ≡ first_count result.core.setup r }
+    {
+        SerialStripe { stripe, journal }
+    }
+
+    /// Ends the stripe. Its lanes come back in order of region, and the journal beside them.
+    pub fn into_parts(self) -> (List<S>, J)
+        requires rest { IsAtRest self.core }
+        ensures count { length result.0.items ≡ regions self.core.setup }
+        ensures lanes { (r : ℕ) (lane : S) → slice_get result.0.items r ≡ Some lane → IsHere self.core r (S.seen lane) }
+        ensures stands { (h : History Entry) → StandsFor h self.core → (r : ℕ) (lane : S) → slice_get result.0.items r ≡ Some lane → HomeLane self.core.setup h r (S.seen lane) }
+        ensures journal { result.1 ≡ self.journal }
+    {
+        let SerialStripe { stripe, journal } = self;
+        (stripe.into_lanes(), journal)
+    }
+}
