@@ -16,7 +16,7 @@ use Rattle.stripe_core.specs.declared.answers.Look.{Look}
 use Rattle.stripe_core.specs.declared.answers.Look.TheVariants as look
 use Rattle.stripe_core.specs.declared.answers.Raise.{Raise}
 use Rattle.stripe_core.specs.declared.answers.Raise.TheVariants as raise
-use Rattle.core_bench.specs.Hands.{Stands, Later, GoesOn}
+use Rattle.core_bench.specs.Hands.{Stands, GoesOn}
 
 pub same_goes : (c d : Core) → d ≡ c → GoesOn c d
 same_goes c d e = subst (GoesOn c) (sym e) (record { setup = refl; later = λ h s. record { history = h; is = s; flight = λ r. refl } })
@@ -29,9 +29,6 @@ goes_twice c d e a b = record {
       let two = b.later one.history one.is in
       record { history = two.history; is = two.is; flight = λ r. two.flight r ∙ one.flight r };
 }
-
-pub goes_stands : (c d : Core) → GoesOn c d → Stands c → Stands d
-goes_stands c d a s = let l = a.later s.history s.is in record { history = l.history; is = l.is }
 
 -- an entry that is neither a start nor an end
 pub entry_goes : (c d : Core) (e : Entry) → d.setup ≡ c.setup → ((h : History Entry) (o : ℕ) → StandsFor h c → StandsFor ((o, e) ∷ h) d)

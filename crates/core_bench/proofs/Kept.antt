@@ -3,22 +3,24 @@ use Rattle.std.proofs.Common.{◌≡◌, ◌∙◌, ◌∷◌, ℕ, sym, ap, sub
 use Rattle.histories.specs.Histories.{History}
 use Rattle.page_model.specs.declared.entry.Entry.{Entry}
 use Rattle.page_model.specs.Core.{Core}
+use Rattle.page_model.specs.InFlight.{in_flight}
 use Rattle.page_model.specs.Setups.{Setup, quota}
 use Rattle.page_model.specs.Stands.{StandsFor}
-use Rattle.core_bench.specs.Hands.{IsOneRegion, Stands, GoesOn}
-use Rattle.core_bench.proofs.Going.{goes_stands}
+use Rattle.core_bench.specs.Hands.{IsOneRegion, IsAtRest, GoesOn}
+use Rattle.core_bench.proofs.Resting.{goes_rest}
 
 abbrev pub InHand : Core → (pages scratch frames : ℕ) → Type 0
-InHand c pages scratch frames = Stands c × IsOneRegion c.setup pages × (scratch ≡ c.setup.page_size) × (frames ≡ quota c.setup)
+InHand c pages scratch frames = IsAtRest c × IsOneRegion c.setup pages × (scratch ≡ c.setup.page_size) × (frames ≡ quota c.setup)
 
-pub kept : (c d : Core) (pages scratch frames : ℕ) → d.setup ≡ c.setup → Stands d → InHand c pages scratch frames → InHand d pages scratch frames
+pub kept : (c d : Core) (pages scratch frames : ℕ) → d.setup ≡ c.setup → IsAtRest d → InHand c pages scratch frames → InHand d pages scratch frames
 kept c d pages scratch frames e s i =
     (s, subst (λ (u : Setup). IsOneRegion u pages) (sym e) i.1, i.2 ∙ sym (ap (λ (u : Setup). u.page_size) e), i.3 ∙ sym (ap quota e))
 
 pub goes : (c d : Core) (pages scratch frames : ℕ) → GoesOn c d → InHand c pages scratch frames → InHand d pages scratch frames
-goes c d pages scratch frames on i = kept c d pages scratch frames on.setup (goes_stands c d on i.0) i
+goes c d pages scratch frames on i = kept c d pages scratch frames on.setup (goes_rest c d on i.0) i
 
--- by an event that makes this entry
+-- by an event that makes this entry, which is neither a start nor an end
 pub makes : (c d : Core) (pages scratch frames : ℕ) (e : Entry) → d.setup ≡ c.setup → ((h : History Entry) (o : ℕ) → StandsFor h c → StandsFor ((o, e) ∷ h) d)
-    → InHand c pages scratch frames → InHand d pages scratch frames
-makes c d pages scratch frames e setup stands i = kept c d pages scratch frames setup (record { history = (0, e) ∷ i.0.history; is = stands i.0.history 0 i.0.is }) i
+    → ((h : History Entry) (r : ℕ) → in_flight ((0, e) ∷ h) r ≡ in_flight h r) → InHand c pages scratch frames → InHand d pages scratch frames
+makes c d pages scratch frames e setup stands flight i =
+    kept c d pages scratch frames setup (record { history = (0, e) ∷ i.0.history; is = stands i.0.history 0 i.0.is; flight = λ r. flight i.0.history r ∙ i.0.flight r }) i

@@ -1,4 +1,5 @@
 pub mod Going
 pub mod OneRegion
 pub mod Places
+pub mod Resting
 pub mod Kept

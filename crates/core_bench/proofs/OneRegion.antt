@@ -1,8 +1,7 @@
 -- What is known of a stripe with one region.
-use Rattle.std.proofs.Common.{◌≡◌, ◌<◌, ◌≤◌, ◌+◌, ◌/◌, ◌%◌, ◌∷◌, [], ◌∙◌, ◌==◌, ◌&&◌, Bool, ℕ, List, Some, length, slice_get, nat_lt, true, refl, sym, ap, arith, subst}
+use Rattle.std.proofs.Common.{◌≡◌, ◌<◌, ℕ, length, true, refl, sym, ap, arith, subst}
 use Rattle.page_base.specs.declared.keys.Key.{Key}
-use Rattle.page_base.specs.declared.keys.RegionShape.{RegionShape}
-use Rattle.page_model.specs.Setups.{Setup, has_page, is_writable, regions, is_page_of}
+use Rattle.page_model.specs.Setups.{Setup, has_page, is_writable, regions}
 use Rattle.page_model.specs.Core.{Core}
 use Rattle.core_bench.specs.Hands.{IsOneRegion, GoesOn}
 

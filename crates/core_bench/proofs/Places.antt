@@ -1,5 +1,5 @@
 -- Where a page lies in its lane.
-use Rattle.std.proofs.Common.{◌≡◌, ◌≢◌, ◌<◌, ◌≤◌, ◌+◌, ◌*◌, ◌∷◌, ◌++◌, [], length, slice_get, Bool, None, ◌/◌, ◌∙◌, ℕ, List, Option, Some, true, refl, sym, ap, subst, arith}
+use Rattle.std.proofs.Common.{◌≡◌, ◌<◌, ◌≤◌, ◌*◌, ◌∷◌, ◌++◌, [], length, slice_get, None, ◌/◌, ◌∙◌, ℕ, List, Option, Some, true, refl, sym, ap, subst, arith}
 use Rattle.std.proofs.lemmas.List.{length-append}
 use Rattle.std.proofs.Math.Nat.{mul-div_cancel, mul-le-mul}
 use Rattle.page_base.specs.Lanes.{Origin, LaneSeen, has_page, told_at}

@@ -1,5 +1,5 @@
 -- A stripe that is driven by hand.
-use Rattle.std.specs.Prelude.{ℕ, true, ◌≤◌, [], ◌∷◌, ◌≡◌}
+use Rattle.std.specs.Prelude.{ℕ, true, ◌≤◌, [], ◌∷◌, None, ◌≡◌}
 use Rattle.histories.specs.Histories.{History}
 use Rattle.page_model.specs.declared.entry.Entry.{Entry}
 use Rattle.page_model.specs.InFlight.{in_flight}
@@ -19,6 +19,12 @@ pub record IsOneRegion (s : Setup) (pages : ℕ) : Type 0 where
 pub record Stands (c : Core) : Type 0 where
   pub history : History Entry
   pub is : StandsFor history c
+
+-- the stripe stands for a history in which nothing is in flight
+pub record IsAtRest (c : Core) : Type 0 where
+  pub history : History Entry
+  pub is : StandsFor history c
+  pub flight : (r : ℕ) → in_flight history r ≡ None
 
 -- the history went on from h, and what was in flight is so still
 pub record Later (h : History Entry) (c : Core) : Type 0 where

@@ -38,9 +38,10 @@ fn is_picked<S: Store>(stripe: &Stripe<S>, key: Key) -> bool
 /// A write of the page may start for this cause.
 pub fn may_write<S: Store>(stripe: &Stripe<S>, key: Key, why: Cause) -> bool
     requires page { has_page stripe.now.setup key ≡ true }
+    requires home { core.is_home stripe.now key.region ≡ true }
     ensures { result ≡ true → CanStartWrite stripe.now key why }
 {
-    if !stripe.is_dirty(key) || !stripe.is_home(key.region) {
+    if !stripe.is_dirty(key) {
         return false;
     }
     match why {
@@ -53,9 +54,10 @@ pub fn may_write<S: Store>(stripe: &Stripe<S>, key: Key, why: Cause) -> bool
 /// The page may leave for this cause.
 pub fn may_evict<S: Store>(stripe: &Stripe<S>, key: Key, why: Cause) -> bool
     requires page { has_page stripe.now.setup key ≡ true }
+    requires home { core.is_home stripe.now key.region ≡ true }
     ensures { result ≡ true → CanEvict stripe.now key why }
 {
-    if !stripe.is_present(key) || stripe.is_dirty(key) || !stripe.is_home(key.region) {
+    if !stripe.is_present(key) || stripe.is_dirty(key) {
         return false;
     }
     match why {

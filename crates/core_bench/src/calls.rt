@@ -5,7 +5,7 @@ ghost use Rattle.page_model.specs.Core.{next};
 ghost use Rattle.page_model.specs.Events.{CanStartWrite};
 ghost use Rattle.page_model.specs.Setups.{has_page, is_writable};
 ghost use Rattle.page_model.specs.declared.seen.Next.TheVariants as serve;
-ghost use Rattle.core_bench.specs.Hands.{GoesOn, Stands};
+ghost use Rattle.core_bench.specs.Hands.{GoesOn, IsAtRest, Stands};
 
 use crate::asked::may_raise;
 use page_base::{Key, Why};
@@ -76,11 +76,11 @@ pub fn open_next<S: Store>(stripe: &mut Stripe<S>)
 /// Reads in the page that is next.
 pub fn read_in<S: Store>(stripe: &mut Stripe<S>, scratch: &mut [u8])
     requires few { stripe.old.events + 2 ≤ 2 ^ 62 }
-    requires stands { Stands stripe.old }
+    requires rest { IsAtRest stripe.old }
     requires size { length scratch.old ≡ stripe.old.setup.page_size }
     requires small { stripe.old.setup.page_size ≤ 1048576 }
     requires next { (k : Key) × (next stripe.old ≡ serve.Read k) }
-    ensures stands { Stands stripe.new }
+    ensures rest { IsAtRest stripe.new }
     ensures setup { stripe.new.setup ≡ stripe.old.setup }
 {
     let mut trip = stripe.start_read();
@@ -118,14 +118,14 @@ pub fn write_out<S: Store>(
     between: Option<u8>,
 )
     requires few { stripe.old.events + 8 ≤ 2 ^ 62 }
-    requires stands { Stands stripe.old }
+    requires rest { IsAtRest stripe.old }
     requires page { has_page stripe.old.setup key ≡ true }
     requires writable { is_writable stripe.old.setup key.region ≡ true }
     requires large { 64 ≤ stripe.old.setup.page_size }
     requires size { length scratch.old ≡ stripe.old.setup.page_size }
     requires small { stripe.old.setup.page_size ≤ 1048576 }
     requires can { CanStartWrite stripe.old key why }
-    ensures stands { Stands stripe.new }
+    ensures rest { IsAtRest stripe.new }
     ensures setup { stripe.new.setup ≡ stripe.old.setup }
 {
     service_knows();

@@ -1,8 +1,9 @@
 //! One stripe that is driven by hand: one region of a few pages, which may be stored to.
 //!
-//! Between two calls the stripe stands for the history of what was done. What an event asks is looked at before it: where it
+//! Between two calls the stripe stands for the history of what was done, in which nothing is in flight: its lane is home. What an event asks is looked at before it: where it
 //! isn't so, nothing is done, and the answer is `None` or false. So a caller owes nothing.
 ghost use Rattle.std.specs.Prelude.{◌≡◌, ◌≤◌, ◌<◌, ◌+◌, ◌^◌, true, length, IfSome};
+ghost use Rattle.page_model.specs.Core.{is_home};
 ghost use Rattle.page_model.specs.Setups.{has_page, is_writable};
 ghost use Rattle.store_trait.specs.Memory.{memory_origin};
 
@@ -10,10 +11,10 @@ use crate::asked::{may_evict, may_write};
 use crate::calls::{load_at, raise_at, read_in, save_at, write_out};
 use crate::sweeps::{load_rounds, save_rounds};
 use page_base::{Key, Layout, List, OutOfMemory, RegionShape, Why};
+use page_model::events::readers_agree;
 use page_model::{Cause, HintAnswer, Next};
 use std::alloc::Global;
 use std::marker::Model;
-use std::process::Abort;
 use store_trait::Store;
 use stripe_core::{FrameState, Look, NewStripe, Raise, Stripe, StripeConfig};
 
@@ -42,12 +43,12 @@ impl<S: Store> Model for Hand<S> {
 
     ghost Value = { Core };
 
-    ghost use Rattle.core_bench.specs.Hands.{IsOneRegion, Stands};
+    ghost use Rattle.core_bench.specs.Hands.{IsAtRest, IsOneRegion};
     ghost use Rattle.page_model.specs.Setups.{quota};
 
     ghost view = { λ h. h.stripe };
 
-    ghost invariant = { λ h. Stands h.stripe × IsOneRegion h.stripe.setup h.pages × (length h.scratch.items ≡ h.stripe.setup.page_size) × (h.frames ≡ quota h.stripe.setup) };
+    ghost invariant = { λ h. IsAtRest h.stripe × IsOneRegion h.stripe.setup h.pages × (length h.scratch.items ≡ h.stripe.setup.page_size) × (h.frames ≡ quota h.stripe.setup) };
 }
 
 impl<S: Store + Drop> Hand<S> {
@@ -108,8 +109,10 @@ impl<S: Store> Hand<S> {
     fn key(&self, page: u32) -> Option<Key>
         ensures page { IfSome result (λ k. has_page self.now.setup k ≡ true) }
         ensures writable { IfSome result (λ k. is_writable self.now.setup k.region ≡ true) }
+        ensures home { IfSome result (λ k. is_home self.now k.region ≡ true) }
         ensures few { IfSome result (λ _. self.now.events + 8 ≤ 2 ^ 62) }
     {
+        readers_agree();
         if page < self.pages && self.stripe.events() < MOST_EVENTS {
             Some(Key { region: 0, page })
         } else {
@@ -246,17 +249,15 @@ impl<S: Store> Hand<S> {
         self.stripe.quiet(0)
     }
 
-    /// Ends the stripe. Its lane has to be home.
-    pub fn into_lanes(self, rt: &impl Abort) -> List<S> {
+    /// Ends the stripe, and hands its lane back.
+    pub fn into_lanes(self) -> List<S> {
+        readers_agree();
         let Hand {
             stripe,
             scratch: _,
             pages: _,
             frames: _,
         } = self;
-        if !stripe.is_home(0) {
-            panic!(rt; "a lane is out");
-        }
         stripe.into_lanes()
     }
 }

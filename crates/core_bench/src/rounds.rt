@@ -4,7 +4,6 @@ use crate::memory::zeros;
 use anyhow::{Result, ensure};
 use page_base::{Layout, Why};
 use std::alloc::Global;
-use std::process::Abort;
 use std::rt::Clock;
 use std::time::Instant;
 use store_trait::MemLane;
@@ -49,7 +48,7 @@ fn time_both<R: Clock>(
 }
 
 /// Times accesses of so many bytes.
-pub fn time_accesses<R: Clock + Abort>(
+pub fn time_accesses<R: Clock>(
     rt: &R,
     alloc: Global,
     page_size: u32,
@@ -59,6 +58,6 @@ pub fn time_accesses<R: Clock + Abort>(
     let mut buf = vec![in alloc; 7u8; bytes as usize]?;
     let mut hand = filled(alloc, page_size)?;
     let times = time_both(rt, &mut hand, rounds, buf.as_mut_slice());
-    let _ = hand.into_lanes(rt);
+    let _ = hand.into_lanes();
     times
 }

@@ -202,7 +202,7 @@ fn pages_wait_are_read_in_and_are_stored_to(rt: HostRuntime) -> Result<(), Fail>
         (Do::Hint(0), Said::Hint(HintAnswer::Closed)),
     ];
     play(&rt, &mut hand, &rows);
-    assert_eq!(rt; hand.into_lanes(&rt).len(), 1);
+    assert_eq!(rt; hand.into_lanes().len(), 1);
     Ok(())
 }
 
@@ -249,7 +249,7 @@ fn two_pages_take_turns_in_one_frame(rt: HostRuntime) -> Result<(), Fail> {
         ),
     ];
     play(&rt, &mut hand, &rows);
-    assert_eq!(rt; hand.into_lanes(&rt).len(), 1);
+    assert_eq!(rt; hand.into_lanes().len(), 1);
     Ok(())
 }
 
@@ -271,7 +271,7 @@ fn a_store_that_comes_while_a_write_is_out_isnt_lost(rt: HostRuntime) -> Result<
         (Do::Load(0), Said::Byte(2)),
     ];
     play(&rt, &mut hand, &rows);
-    assert_eq!(rt; hand.into_lanes(&rt).len(), 1);
+    assert_eq!(rt; hand.into_lanes().len(), 1);
     Ok(())
 }
 
@@ -307,7 +307,7 @@ fn a_failed_call_of_the_store_loses_nothing(rt: HostRuntime) -> Result<(), Fail>
         (Do::Page(0), CLEAN),
     ];
     play(&rt, &mut hand, &rows);
-    assert_eq!(rt; hand.into_lanes(&rt).len(), 1);
+    assert_eq!(rt; hand.into_lanes().len(), 1);
     Ok(())
 }
 
@@ -336,6 +336,6 @@ fn a_closed_region_is_unmapped_once_nothing_of_it_is_left(rt: HostRuntime) -> Re
         (Do::Unmap, Said::Refused),
     ];
     play(&rt, &mut hand, &rows);
-    assert_eq!(rt; hand.into_lanes(&rt).len(), 1);
+    assert_eq!(rt; hand.into_lanes().len(), 1);
     Ok(())
 }

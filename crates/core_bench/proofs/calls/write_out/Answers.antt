@@ -1,10 +1,11 @@
-use Rattle.std.proofs.Common.{◌≡◌, ◌<◌, ◌≤◌, ◌*◌, ◌∷◌, ◌∙◌, ℕ, length, sym, ap, subst, arith, true}
+use Rattle.std.proofs.Common.{◌≡◌, ◌<◌, ◌∷◌, ◌∙◌, length, sym, ap, subst, arith, true}
 use Rattle.page_base.specs.declared.keys.Key.{Key}
 use Rattle.page_base.specs.Lanes.{LaneSeen}
 use Rattle.page_model.specs.Readers.{LaneHas}
 use Rattle.page_model.specs.Setups.{has_page}
 use Rattle.page_model.specs.declared.entry.Entry.TheVariants as entry
 use Rattle.core_bench.proofs.Going.{open_later, taken_later}
+use Rattle.core_bench.proofs.Resting.{write_ends}
 use Rattle.core_bench.proofs.Places.{back, is_place, wrote, missed, bounded}
 use Rattle.core_bench.proofs.calls.write_out.Goals as goal
 
@@ -15,13 +16,13 @@ overflow_mul-place g c =
 
 pub reopen-requires-clause-stands : goal.reopen-requires-clause-stands
 reopen-requires-clause-stands g c =
-    let s = c.requires.stands in
+    let s = c.requires.rest in
     record { history = _; is = c.start_write-trip.ensures.stands s.history 0 s.is }
 
 pub write_to_store-requires : goal.write_to_store-requires
 write_to_store-requires g c =
     let e = c.start_write-trip.ensures in
-    let s = c.requires.stands in
+    let s = c.requires.rest in
     let open_ = e.open_write s.history 0 s.is in
     let its : has_page c.args.stripe.now.setup c.start_write-trip.result.start.key ≡ true = rw e.key c.requires.page in
     let lane : LaneHas c.args.stripe.now.setup c.start_write-trip.result.start.key c.start_write-trip.result.start.taken = c.service_knows.ensures.lane_has _ open_.before _ _ s.is.fits its open_.taken in
@@ -32,7 +33,7 @@ write_to_store-requires g c =
 pub written-requires-clause-open_write : goal.written-requires-clause-open_write
 written-requires-clause-open_write g c =
     let e = c.start_write-trip.ensures in
-    let s = c.requires.stands in
+    let s = c.requires.rest in
     let on = c.reopen.ensures.on in
     let l = on.later _ (e.stands s.history 0 s.is) in
     let open_ = open_later _ _ l.history 0 _ l.flight (e.open_write s.history 0 s.is) in
@@ -42,7 +43,7 @@ written-requires-clause-open_write g c =
 pub written-requires-clause-wrote : goal.written-requires-clause-wrote
 written-requires-clause-wrote g c =
     let e = c.start_write-trip.ensures in
-    let s = c.requires.stands in
+    let s = c.requires.rest in
     let open_ = e.open_write s.history 0 s.is in
     let its : has_page c.args.stripe.now.setup c.start_write-trip.result.start.key ≡ true = rw e.key c.requires.page in
     let lane : LaneHas c.args.stripe.now.setup c.start_write-trip.result.start.key c.start_write-trip.result.start.taken = c.service_knows.ensures.lane_has _ open_.before _ _ s.is.fits its open_.taken in
@@ -56,7 +57,7 @@ written-requires-clause-wrote g c =
 pub write_failed-requires-clause-open_write : goal.write_failed-requires-clause-open_write
 write_failed-requires-clause-open_write g c =
     let e = c.start_write-trip.ensures in
-    let s = c.requires.stands in
+    let s = c.requires.rest in
     let on = c.reopen.ensures.on in
     let l = on.later _ (e.stands s.history 0 s.is) in
     let open_ = open_later _ _ l.history 0 _ l.flight (e.open_write s.history 0 s.is) in
@@ -65,7 +66,7 @@ write_failed-requires-clause-open_write g c =
 pub write_failed-requires-clause-others : goal.write_failed-requires-clause-others
 write_failed-requires-clause-others g c =
     let e = c.start_write-trip.ensures in
-    let s = c.requires.stands in
+    let s = c.requires.rest in
     let open_ = e.open_write s.history 0 s.is in
     let its : has_page c.args.stripe.now.setup c.start_write-trip.result.start.key ≡ true = rw e.key c.requires.page in
     let lane : LaneHas c.args.stripe.now.setup c.start_write-trip.result.start.key c.start_write-trip.result.start.taken = c.service_knows.ensures.lane_has _ open_.before _ _ s.is.fits its open_.taken in
@@ -76,21 +77,21 @@ write_failed-requires-clause-others g c =
     let some = subst (λ n. 0 < n) (sym len) s.is.fits.some_bytes in
     missed _ _ _ _ _ same (back _ _ _ some one ∙ page) c.in-Err.ensures.others c.in-Err.ensures.origin c.in-Err.ensures.cause.later
 
-pub returns-in-Ok-clause-stands : goal.returns-in-Ok-clause-stands
-returns-in-Ok-clause-stands g c =
+pub returns-in-Ok-clause-rest : goal.returns-in-Ok-clause-rest
+returns-in-Ok-clause-rest g c =
     let e = c.start_write-trip.ensures in
-    let s = c.requires.stands in
+    let s = c.requires.rest in
     let on = c.reopen.ensures.on in
     let l = on.later _ (e.stands s.history 0 s.is) in
     let open_ = open_later _ _ l.history 0 _ l.flight (e.open_write s.history 0 s.is) in
     let taken = taken_later c.args.stripe.now.setup ((0, entry.StartWrite c.args.key c.args.why) ∷ s.history) l.history c.args.key c.start_write-trip.new.scratch l.flight (e.taken s.history 0 s.is) in
-    record { history = _; is = c.written.ensures.stands l.history 0 l.is (rw (on.setup, e.fixed) open_) (rw (on.setup, e.fixed, e.key) taken) }
+    record { history = _; is = c.written.ensures.stands l.history 0 l.is (rw (on.setup, e.fixed) open_) (rw (on.setup, e.fixed, e.key) taken); flight = write_ends s.history l.history c.args.key c.start_write-trip.result.start.key c.args.why (sym e.key) s.flight l.flight }
 
-pub returns-in-Err-clause-stands : goal.returns-in-Err-clause-stands
-returns-in-Err-clause-stands g c =
+pub returns-in-Err-clause-rest : goal.returns-in-Err-clause-rest
+returns-in-Err-clause-rest g c =
     let e = c.start_write-trip.ensures in
-    let s = c.requires.stands in
+    let s = c.requires.rest in
     let on = c.reopen.ensures.on in
     let l = on.later _ (e.stands s.history 0 s.is) in
     let open_ = open_later _ _ l.history 0 _ l.flight (e.open_write s.history 0 s.is) in
-    record { history = _; is = c.write_failed.ensures.stands l.history 0 l.is (rw (on.setup, e.fixed) open_) }
+    record { history = _; is = c.write_failed.ensures.stands l.history 0 l.is (rw (on.setup, e.fixed) open_); flight = write_ends s.history l.history c.args.key c.start_write-trip.result.start.key c.args.why (sym e.key) s.flight l.flight }

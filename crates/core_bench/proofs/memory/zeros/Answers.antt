@@ -1,8 +1,6 @@
-use Rattle.std.proofs.Common.{rules, arith, ◌≡◌, ◌<◌, ◌≤◌, ◌*◌, ◌/◌, ◌∙◌, ◌∷◌, [], ℕ, List, length, sym, ap, subst}
-use Rattle.page_model.specs.Setups.{Setup}
+use Rattle.std.proofs.Common.{rules, ◌≡◌, ◌<◌, ◌*◌, ◌/◌, ◌∙◌, length, sym, ap}
 use Rattle.std.proofs.Math.Nat.{mul-div_cancel}
 use Rattle.page_base.specs.Lanes.{LaneSeen}
-use Rattle.store_trait.specs.MemLanes.{lane_origin}
 use Rattle.core_bench.proofs.Places.{whole, only, alike}
 use Rattle.core_bench.proofs.memory.zeros.Goals as goal
 

@@ -1,4 +1,4 @@
-use Rattle.std.proofs.Common.{◌≡◌, ◌≤◌, length}
+use Rattle.std.proofs.Common.{◌≡◌, ◌≤◌}
 use Rattle.core_bench.specs.Hands.{GoesOn, IsOneRegion}
 use Rattle.core_bench.proofs.sweeps.save_each.Given as goal
 

@@ -1,6 +1,7 @@
+use Rattle.std.proofs.Common.{refl}
 use Rattle.page_model.specs.declared.entry.Entry.TheVariants as entry
 use Rattle.core_bench.proofs.Kept.{makes}
 use Rattle.core_bench.proofs.hand.Hand.close.Goals as goal
 
 pub invariant_of-self : goal.invariant_of-self
-invariant_of-self g c = makes _ _ _ _ _ (entry.Closing 0) c.closing.ensures.fixed c.closing.ensures.stands c.self.invariant
+invariant_of-self g c = makes _ _ _ _ _ (entry.Closing 0) c.closing.ensures.fixed c.closing.ensures.stands (λ h r. refl) c.self.invariant

@@ -1,4 +1,4 @@
-use Rattle.std.proofs.Common.{rules, arith, ◌≡◌, ◌∙◌, ◌∷◌, ◌++◌, [], List, true, length, sym, ap, subst, refl, ℕ}
+use Rattle.std.proofs.Common.{rules, ◌≡◌, ◌∙◌, ◌∷◌, ◌++◌, [], List, true, length, sym, ap, subst, refl}
 use Rattle.page_base.specs.declared.keys.RegionShape.{RegionShape}
 use Rattle.page_model.specs.Core.{Core}
 use Rattle.page_model.specs.Setups.{Setup, quota}
@@ -12,7 +12,7 @@ invariant_of-result g c =
     let shape : RegionShape = record { pages = c.args.pages; group = 1; writable = true } in
     let shapes : c.put.new.self.items ≡ shape ∷ [] = c.put.ensures.items ∙ ap (λ (xs : List RegionShape). xs ++ shape ∷ []) none in
     let scratch : length c.in_ok-scratch.scratch.items ≡ c.args.layout.page_size = search rules in (
-      record { history = []; is = c.in-Ok.ensures.stands },
+      record { history = []; is = c.in-Ok.ensures.stands; flight = λ r. refl },
       subst (λ (u : Setup). IsOneRegion u c.args.pages) (sym e) (record { stripes = c.requires.one_stripe; number = refl; shapes = shapes; large_pages = c.args.layout.large_pages; small_pages = c.args.layout.small_pages }),
       scratch ∙ sym (ap (λ (u : Setup). u.page_size) e),
       c.quota.ensures.quota ∙ sym (ap quota e),
