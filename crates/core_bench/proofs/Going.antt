@@ -16,7 +16,7 @@ use Rattle.stripe_core.specs.declared.answers.Look.{Look}
 use Rattle.stripe_core.specs.declared.answers.Look.TheVariants as look
 use Rattle.stripe_core.specs.declared.answers.Raise.{Raise}
 use Rattle.stripe_core.specs.declared.answers.Raise.TheVariants as raise
-use Rattle.core_bench.specs.Hands.{Stands, GoesOn}
+use Rattle.core_bench.specs.Hands.{GoesOn}
 
 pub same_goes : (c d : Core) → d ≡ c → GoesOn c d
 same_goes c d e = subst (GoesOn c) (sym e) (record { setup = refl; later = λ h s. record { history = h; is = s; flight = λ r. refl } })
