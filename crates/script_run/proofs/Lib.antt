@@ -20,3 +20,4 @@ pub mod Seeing
 pub mod Opened
 pub mod Cleaning
 pub mod Shapes
+pub mod WithoutFaults

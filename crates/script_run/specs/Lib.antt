@@ -8,3 +8,6 @@ pub mod Engine
 pub mod Running
 pub mod Residents
 pub mod Frames
+pub mod Replies
+pub mod FitsSerial
+pub mod FitsLaws

@@ -10,6 +10,7 @@
 mod access;
 mod engine;
 mod lanes;
+pub mod laws;
 mod memory;
 mod pages;
 mod replies;
