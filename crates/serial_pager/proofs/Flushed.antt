@@ -1,5 +1,5 @@
 -- A pager whose dirty pages were written, as all its pages see it.
-use Rattle.std.proofs.Common.{◌≡◌, ◌⊎◌, inl, inr, ℕ, zero, suc, ◌+◌, ◌^◌, ◌<◌, ◌≤◌, Bool, true, false, List, [], ◌∷◌, length, Option, Some, None, IfSome, slice_get, refl, sym, ap, subst, ◌∙◌, arith, cond}
+use Rattle.std.proofs.Common.{◌≡◌, ◌⊎◌, inl, inr, ℕ, zero, suc, ◌+◌, ◌^◌, ◌<◌, ◌≤◌, true, false, List, [], ◌∷◌, length, Option, Some, None, IfSome, slice_get, refl, sym, ap, subst, ◌∙◌, arith}
 use Rattle.std.specs.Option.{option_map}
 use Rattle.std.proofs.lemmas.Option.{slice_get_within}
 use Rattle.histories.specs.Histories.{History}
@@ -8,24 +8,21 @@ use Rattle.page_base.specs.declared.keys.RegionShape.{RegionShape}
 use Rattle.page_base.specs.Lanes.{Rose}
 use Rattle.page_base.specs.Pages.{stripe_of}
 use Rattle.page_model.specs.declared.entry.Entry.{Entry}
-use Rattle.page_model.specs.Core.{Core, page_at}
+use Rattle.page_model.specs.Core.{Core}
 use Rattle.page_model.specs.Setups as setup
 use Rattle.page_model.specs.Setups.{Setup, regions}
 use Rattle.serial_pager.specs.Seen.{StripeSeen}
 use Rattle.serial_pager.specs.Holdings as one
 use Rattle.serial_pager.specs.Writings as one_writing
-use Rattle.serial_pager.specs.Pagers.{PagerSeen, group_in, core_in, held_in, kept_in, count_in, core_at, page_in, has_page, stripe_at, count_at, IsSame, HoldsSame, CountsGrow, RoseAt, IsKept, IsTried}
+use Rattle.serial_pager.specs.Pagers.{PagerSeen, group_in, core_in, held_in, kept_in, owes_in, count_in, core_at, page_in, has_page, stripe_at, owes, count_at, IsSame, HoldsSame, CountsGrow, RoseAt, IsKept, IsTried}
 use Rattle.serial_pager.specs.Sound.{IsSound, Flushes, SomeRose}
+use Rattle.serial_pager.proofs.Kept.{kept_where_told}
 use Rattle.serial_pager.proofs.Stripes.{stripe_of_pages}
 
 pub past : {A : Type 0} (xs : List A) (q : ℕ) → slice_get xs q ≡ None → length xs ≤ q
 past [] q f = omega arith
 past (z ∷ xs) zero f = absurd (cc)
 past (z ∷ xs) (suc q) f = omega (arith, past xs q f)
-
-same_kept : (o q : Option (List ℕ)) → q ≡ o → IfSome o (λ bytes. q ≡ Some bytes)
-same_kept None q e = tt
-same_kept (Some bytes) q e = e
 
 module _ {J : Type 0} (has_noted : J → History Entry → Type 0) (old new : PagerSeen J) (sound : IsSound old) (many : length new.stripes ≡ length old.stripes) (shapes : new.shapes ≡ old.shapes) (size : new.page_size ≡ old.page_size)
     (flushed : (s : ℕ) (x y : StripeSeen J) → slice_get old.stripes s ≡ Some x → slice_get new.stripes s ≡ Some y → Flushes has_noted x y) where
@@ -99,6 +96,18 @@ module _ {J : Type 0} (has_noted : J → History Entry → Type 0) (old new : Pa
     | inr n ↦ ap (λ s. held_in (core_at new s) k) (same_stripe k) ∙ ap (λ o. held_in (core_in o) k) n.is ∙ sym (ap (λ o. held_in (core_in o) k) n.was)
   ]
 
+  pub owes_after : (k : Key) → owes new k ≡ true → owes old k ≡ true
+  owes_after k e = elim (pair (stripe_at old k)) [
+    | inl p ↦ subst (λ o. owes_in (core_in o) k ≡ true) (sym p.was) ((flushed (stripe_at old k) p.x p.y p.was p.is).owes k (subst (λ o. owes_in (core_in o) k ≡ true) p.is there))
+    | inr n ↦ absurd (nothing (subst (λ o. owes_in (core_in o) k ≡ true) n.is there))
+  ]
+    where
+      there : owes_in (core_at new (stripe_at old k)) k ≡ true
+      there = subst (λ s. owes_in (core_at new s) k ≡ true) (same_stripe k) e
+
+      nothing : false ≡ true → ⊥
+      nothing h = cc
+
   count_was : (s r : ℕ) (p : Pair s) → count_at old s r ≡ one.count_at p.x.core r
   count_was s r p = ap (λ o. count_in (core_in o) r) p.was
 
@@ -121,11 +130,7 @@ module _ {J : Type 0} (has_noted : J → History Entry → Type 0) (old new : Pa
       let u = (flushed s p.x p.y p.was p.is).entries.went.setup in
       let mine : setup.has_page p.x.core.setup k ≡ true = stripe_of_pages old s p.x.core part k (sym (same_page k) ∙ page) (sym (same_stripe k) ∙ at) in
       let its : setup.has_page p.y.core.setup k ≡ true = ap (λ v. setup.has_page v k) u ∙ mine in
-      subst (λ o. IfSome (held_in o k) (λ bytes. kept_in o k ≡ Some bytes)) (sym here) (go k its region (setup.is_told p.y.core.setup k) refl)
-    where
-      go : (k : Key) → setup.has_page p.y.core.setup k ≡ true → k.region ≡ r → (b : Bool) → setup.is_told p.y.core.setup k ≡ b → IfSome (one.held p.y.core k) (λ bytes. one.told p.y.core k ≡ Some bytes)
-      go k its region true told = same_kept (one.held p.y.core k) (one.told p.y.core k) (stored.told k region its told)
-      go k its region false told = subst (λ o. IfSome o (λ bytes. one.told p.y.core k ≡ Some bytes)) (sym (ap (λ b. cond b (one.bytes_or (page_at p.y.core k) (one.told p.y.core k)) None) told)) tt
+      subst (λ o. IfSome (held_in o k) (λ bytes. kept_in o k ≡ Some bytes)) (sym here) (kept_where_told p.y.core k (stored.told k region its))
 
   pub tried_after : (s r : ℕ) → s < length old.stripes → r < length old.shapes → IsTried old new s r
   tried_after s r below region = elim (pair s) [

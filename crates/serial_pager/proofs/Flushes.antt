@@ -23,7 +23,7 @@ use Rattle.serial_pager.specs.Holdings.{CountsGrow, HoldsSame, IsClean, IsStored
 use Rattle.serial_pager.specs.Rests.{IsAtRest}
 use Rattle.serial_pager.specs.Services.{FailsToWrite, Writes}
 use Rattle.serial_pager.specs.Writings.{RoseAt, flushes}
-use Rattle.serial_pager.proofs.Owes.{unwritten_dirty, written_clean, written_dirty}
+use Rattle.serial_pager.proofs.Owes.{NoMoreOwed, no_more_twice, unwritten_dirty, unwritten_owes, written_clean, written_dirty, written_owes}
 use Rattle.serial_pager.proofs.Returns.{names_unwritten}
 
 -- what a try to write a page leaves
@@ -31,6 +31,10 @@ module _ {X : Type 0} (c d : Core) (k : Key) where
   pub page_clean : (r : Result X PageFault) → OnOk r (Writes k c d) → IfErr r (λ f. FailsToWrite k c d f) → (j : Key) → is_dirty c j ≡ false → is_dirty d j ≡ false
   page_clean (Ok x) w f j e = false_from_ne_true (is_dirty d j) (λ t. let was = written_dirty c d k w j t in cc)
   page_clean (Err fault) w f j e = unwritten_dirty c d k fault f j ∙ e
+
+  pub page_owes : (r : Result X PageFault) → OnOk r (Writes k c d) → IfErr r (λ f. FailsToWrite k c d f) → NoMoreOwed c d
+  page_owes (Ok x) w f = written_owes c d k w
+  page_owes (Err fault) w f = unwritten_owes c d k fault f
 
   pub page_written : (r : Result X PageFault) → OnOk r (Writes k c d) → is_err r ≡ false → is_dirty d k ≡ false
   page_written (Ok x) w e = written_clean c d k w
@@ -49,6 +53,7 @@ module _ {X : Type 0} (c d : Core) (k : Key) where
 pub record Tried {J : Type 0} (has_noted : J → History Entry → Type 0) (region upto : ℕ) (failed : Bool) (old new : StripeSeen J) : Type 0 where
   pub rest : IsAtRest new.core
   pub went : WentBy has_noted flushes old new
+  pub owes : NoMoreOwed old.core new.core
   pub counts : CountsGrow old.core new.core
   pub stays_clean : (j : Key) → is_dirty old.core j ≡ false → is_dirty new.core j ≡ false
   pub rose : failed ≡ true → RoseAt old.core new.core region
@@ -59,6 +64,7 @@ pub record Tried {J : Type 0} (has_noted : J → History Entry → Type 0) (regi
 pub record TriedOne {J : Type 0} (has_noted : J → History Entry → Type 0) (k : Key) (failed : Bool) (old new : StripeSeen J) : Type 0 where
   pub rest : IsAtRest new.core
   pub went : WentBy has_noted flushes old new
+  pub owes : NoMoreOwed old.core new.core
   pub counts : CountsGrow old.core new.core
   pub stays_clean : (j : Key) → is_dirty old.core j ≡ false → is_dirty new.core j ≡ false
   pub rose : failed ≡ true → RoseAt old.core new.core k.region
@@ -79,6 +85,7 @@ module _ {J : Type 0} (noted : J → History Entry → Type 0) (region : ℕ) wh
   tried_none a rest = record {
     rest = rest;
     went = by_none noted flushes a;
+    owes = λ j e. e;
     counts = λ r. omega arith;
     stays_clean = λ j e. e;
     rose = λ e. absurd cc;
@@ -91,6 +98,7 @@ module _ {J : Type 0} (noted : J → History Entry → Type 0) (region : ℕ) wh
   tried_other p failed o a t none = record {
     rest = t.rest;
     went = t.went;
+    owes = t.owes;
     counts = t.counts;
     stays_clean = t.stays_clean;
     rose = t.rose;
@@ -105,6 +113,7 @@ module _ {J : Type 0} (noted : J → History Entry → Type 0) (region : ℕ) wh
   tried_page p failed o a b t now q = record {
     rest = q.rest;
     went = by_twice noted flushes o a b t.went q.went;
+    owes = no_more_twice o.core a.core b.core t.owes q.owes;
     counts = counts_twice o.core a.core b.core t.counts q.counts;
     stays_clean = λ j e. q.stays_clean j (t.stays_clean j e);
     rose = λ e. elim (or_cases failed now e) [
@@ -152,6 +161,7 @@ module _ {J : Type 0} (noted : J → History Entry → Type 0) (region p : ℕ) 
 pub record TriedAll {J : Type 0} (has_noted : J → History Entry → Type 0) (upto : ℕ) (failed : Bool) (old new : StripeSeen J) : Type 0 where
   pub rest : IsAtRest new.core
   pub went : WentBy has_noted flushes old new
+  pub owes : NoMoreOwed old.core new.core
   pub counts : CountsGrow old.core new.core
   pub each : (r : ℕ) → r < upto → RoseAt old.core new.core r ⊎ IsClean new.core r
   pub rose : failed ≡ true → (r : ℕ) × RoseAt old.core new.core r
@@ -162,6 +172,7 @@ pub record TriedAll {J : Type 0} (has_noted : J → History Entry → Type 0) (u
 pub record TriedRegion {J : Type 0} (has_noted : J → History Entry → Type 0) (region pages : ℕ) (failed : Bool) (old new : StripeSeen J) : Type 0 where
   pub rest : IsAtRest new.core
   pub went : WentBy has_noted flushes old new
+  pub owes : NoMoreOwed old.core new.core
   pub counts : CountsGrow old.core new.core
   pub stays_clean : (j : Key) → is_dirty old.core j ≡ false → is_dirty new.core j ≡ false
   pub rose : failed ≡ true → RoseAt old.core new.core region
@@ -197,6 +208,7 @@ module _ {J : Type 0} (noted : J → History Entry → Type 0) where
   all_none a rest = record {
     rest = rest;
     went = by_none noted flushes a;
+    owes = λ j e. e;
     counts = λ r. omega arith;
     each = λ r lt. absurd (omega arith);
     rose = λ e. absurd cc;
@@ -208,6 +220,7 @@ module _ {J : Type 0} (noted : J → History Entry → Type 0) where
   all_more r shape failed o a b t is now q = record {
     rest = q.rest;
     went = by_twice noted flushes o a b t.went q.went;
+    owes = no_more_twice o.core a.core b.core t.owes q.owes;
     counts = counts_twice o.core a.core b.core t.counts q.counts;
     each = λ i lt. elim (either_way i r lt) [
       | inl below ↦ elim (t.each i below) [

@@ -20,5 +20,6 @@ pub mod Stripes
 pub mod Pieces
 pub mod Unmade
 pub mod Opening
+pub mod Kept
 pub mod Flushing
 pub mod Flushed

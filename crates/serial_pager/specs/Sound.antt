@@ -1,6 +1,7 @@
 -- What ties the fields of a pager; no public contract cites it.
-use Rattle.std.specs.Prelude.{◌≡◌, ℕ, ◌+◌, ◌*◌, ◌^◌, ◌<◌, ◌≤◌, List, ◌++◌, length, reverse, slice_get, Some}
+use Rattle.std.specs.Prelude.{◌≡◌, ℕ, ◌+◌, ◌*◌, ◌^◌, ◌<◌, ◌≤◌, true, List, ◌++◌, length, reverse, slice_get, Some}
 use Rattle.page_base.specs.Lanes.{LaneSeen}
+use Rattle.page_base.specs.declared.keys.Key.{Key}
 use Rattle.page_base.specs.declared.keys.RegionShape.{RegionShape}
 use Rattle.page_model.specs.Core.{Core}
 use Rattle.stripe_core.specs.declared.config.StripeConfig.{StripeConfig}
@@ -9,6 +10,7 @@ use Rattle.histories.specs.Histories.{History}
 use Rattle.page_model.specs.declared.entry.Entry.{Entry}
 use Rattle.page_model.specs.Setups.{regions}
 use Rattle.serial_pager.specs.Goings.{WentBy}
+use Rattle.serial_pager.specs.Holdings as one
 use Rattle.serial_pager.specs.Holdings.{HoldsSame, CountsGrow}
 use Rattle.serial_pager.specs.Writings.{flushes, RoseAt, IsTried}
 use Rattle.serial_pager.specs.Rests.{IsAtRest}
@@ -41,6 +43,7 @@ pub record Flushes {J : Type 0} (has_noted : J → History Entry → Type 0) (x 
   pub rest : IsAtRest y.core
   pub few : y.core.events ≤ x.core.events + 2 ^ 22
   pub held : HoldsSame x.core y.core
+  pub owes : (k : Key) → one.owes y.core k ≡ true → one.owes x.core k ≡ true
   pub entries : WentBy has_noted flushes x y
   pub counts : CountsGrow x.core y.core
   pub tried : (r : ℕ) → r < regions x.core.setup → IsTried x.core y.core r

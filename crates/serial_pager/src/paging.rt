@@ -10,7 +10,7 @@ ghost use Rattle.serial_pager.specs.Holdings.{is_for_store};
 ghost use Rattle.serial_pager.specs.Writings.{flushes};
 ghost use Rattle.page_model.specs.Setups.{regions};
 ghost use Rattle.serial_pager.specs.Sound.{MayFlush, Flushes, SomeRose};
-ghost use Rattle.serial_pager.specs.Pagers.{IsPiece, IsSame, IsWithin, OnStripe, HoldsSame, CountsGrow, NamesFault, RoseAt, IsTried, IsKept, has_page, is_writable, stripe_at, held, owes};
+ghost use Rattle.serial_pager.specs.Pagers.{IsPiece, IsSame, IsWithin, OnStripe, HoldsSame, CountsGrow, NamesFault, RoseAt, IsTried, IsKept, has_page, is_writable, stripe_at, held, kept, owes};
 
 use crate::fault::PageFault;
 use crate::pager::SerialPager;
@@ -125,6 +125,7 @@ impl<S: Store, J: Journal> SerialPager<S, J> {
         ensures spent { self.new.spent ≡ self.old.spent + 64 }
         ensures within { IsWithin self.new }
         ensures held { HoldsSame self.old self.new }
+        ensures owes { (k : Key) → owes self.new k ≡ true → owes self.old k ≡ true }
         ensures entries { (s : ℕ) (x y : _) → slice_get self.old.stripes s ≡ Some x → slice_get self.new.stripes s ≡ Some y → WentBy J.has_noted flushes x y }
         ensures counts { CountsGrow self.old self.new }
         ensures tried { (s r : ℕ) → s < length self.old.stripes → r < length self.old.shapes → IsTried self.old self.new s r }
@@ -138,5 +139,12 @@ impl<S: Store, J: Journal> SerialPager<S, J> {
             self.scratch.as_mut_slice(),
             &mut self.config,
         )
+    }
+
+    /// The lanes tell what each page holds that needn't be written. It does nothing: its contract says so.
+    pub fn unowed_is_kept(&self)
+        ensures kept { (k : Key) → has_page self.now k ≡ true → owes self.now k ≡ false → IfSome (held self.now k) (λ bytes. kept self.now k ≡ Some bytes) }
+    {
+        let _ = &self.stripes;
     }
 }

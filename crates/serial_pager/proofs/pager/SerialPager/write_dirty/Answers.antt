@@ -1,7 +1,7 @@
 use Rattle.std.proofs.Common.{◌≡◌, ℕ, ◌+◌, length, Some, slice_get, sym, ap, subst, ◌∙◌, arith}
 use Rattle.serial_pager.specs.Seen.{StripeSeen}
 use Rattle.serial_pager.specs.Sound.{seen_of, IsSound, Flushes, SomeRose}
-use Rattle.serial_pager.proofs.Flushed.{same, sound_after, held_after, counts_after, tried_after, failed_after, stored_after}
+use Rattle.serial_pager.proofs.Flushed.{same, sound_after, held_after, owes_after, counts_after, tried_after, failed_after, stored_after}
 use Rattle.serial_pager.proofs.Pieces.{within_of}
 use Rattle.serial_pager.proofs.pager.SerialPager.write_dirty.Goals as goal
 
@@ -96,6 +96,21 @@ returns-clause-entries g c =
     let spent : p.spent + 64 ≡ q.spent = ap (λ v. v.spent + 64) (sym old) in
     let flushed : (s : ℕ) (x y : StripeSeen _) → slice_get p.stripes s ≡ Some x → slice_get q.stripes s ≡ Some y → Flushes g.J.Journal.has_noted x y = λ s x y a b. e.flushed s x y (ap (λ v. slice_get v.stripes s) old ∙ a) b in
     λ s x y was is. (flushed s x y was is).entries
+
+pub returns-clause-owes : goal.returns-clause-owes
+returns-clause-owes g c =
+    let p = c.args.self.now in
+    let ins = c.self.inside in
+    let sound = subst IsSound c.self.view_is c.self.invariant.0 in
+    let q = seen_of c.write_stripes.new.config c.write_stripes.new.stripes.items (ins.spent + 64) in
+    let e = c.write_stripes.ensures in
+    let old = c.self.view_is in
+    let many : length q.stripes ≡ length p.stripes = e.count ∙ ap (λ v. length v.stripes) old in
+    let shapes : q.shapes ≡ p.shapes = ap (λ k. k.shapes.items) e.config.1 ∙ ap (λ v. v.shapes) old in
+    let size : q.page_size ≡ p.page_size = ap (λ k. k.layout.page_size) e.config.1 ∙ ap (λ v. v.page_size) old in
+    let spent : p.spent + 64 ≡ q.spent = ap (λ v. v.spent + 64) (sym old) in
+    let flushed : (s : ℕ) (x y : StripeSeen _) → slice_get p.stripes s ≡ Some x → slice_get q.stripes s ≡ Some y → Flushes g.J.Journal.has_noted x y = λ s x y a b. e.flushed s x y (ap (λ v. slice_get v.stripes s) old ∙ a) b in
+    owes_after g.J.Journal.has_noted p q sound many shapes size flushed
 
 pub returns-clause-counts : goal.returns-clause-counts
 returns-clause-counts g c =

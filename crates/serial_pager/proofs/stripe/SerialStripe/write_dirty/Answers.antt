@@ -19,6 +19,7 @@ loop-region-preserved g c =
           let one : TriedRegion g.J.Journal.has_noted c.loop-region.region shape.pages true c.loop-region.self c.write_region.new.self = record {
             rest = d.rest;
             went = d.went;
+            owes = d.owes;
             counts = d.counts;
             stays_clean = d.clean;
             rose = λ e. d.failed w.if-write_region.true;
@@ -34,6 +35,7 @@ loop-region-preserved g c =
           let one : TriedRegion g.J.Journal.has_noted c.loop-region.region shape.pages false c.loop-region.self c.write_region.new.self = record {
             rest = d.rest;
             went = d.went;
+            owes = d.owes;
             counts = d.counts;
             stays_clean = d.clean;
             rose = λ e. absurd cc;
@@ -49,6 +51,9 @@ loop-region-preserved g c =
 
 pub returns-clause-held : goal.returns-clause-held
 returns-clause-held g c = flushes_hold g.J.Journal.has_noted c.args.self.now c.loop-region.self c.requires.rest c.loop-region.invariant.tried.rest c.loop-region.invariant.tried.went
+
+pub returns-clause-owes : goal.returns-clause-owes
+returns-clause-owes g c = c.loop-region.invariant.tried.owes
 
 pub returns-clause-tried : goal.returns-clause-tried
 returns-clause-tried g c = λ r lt.

@@ -1,10 +1,13 @@
 use Rattle.std.proofs.Common.{sym, ◌∙◌}
 use Rattle.page_model.proofs.Prefixes.{page_region}
-use Rattle.serial_pager.proofs.Flushes.{page_clean, page_failed, page_written}
+use Rattle.serial_pager.proofs.Flushes.{page_clean, page_failed, page_owes, page_written}
 use Rattle.serial_pager.proofs.stripe.SerialStripe.write_page.Goals as goal
 
 pub returns-then-is_dirty-clause-clean : goal.returns-then-is_dirty-clause-clean
 returns-then-is_dirty-clause-clean g c = page_clean c.args.self.now.core c.write_out.new.self.core c.args.key c.write_out.result c.write_out.ensures.steps c.write_out.ensures.fault
+
+pub returns-then-is_dirty-clause-owes : goal.returns-then-is_dirty-clause-owes
+returns-then-is_dirty-clause-owes g c = page_owes c.args.self.now.core c.write_out.new.self.core c.args.key c.write_out.result c.write_out.ensures.steps c.write_out.ensures.fault
 
 pub returns-then-is_dirty-clause-failed : goal.returns-then-is_dirty-clause-failed
 returns-then-is_dirty-clause-failed g c = λ e.

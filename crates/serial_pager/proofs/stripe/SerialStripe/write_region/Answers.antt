@@ -12,6 +12,7 @@ loop-page-preserved g c = elim c.if-stripe-config.branch [
       let one : TriedOne g.J.Journal.has_noted (record { region = c.args.region; page = c.loop-page.page }) true c.loop-page.self w.write_page.new.self = record {
         rest = d.rest;
         went = d.went;
+        owes = d.owes;
         counts = d.counts;
         stays_clean = d.clean;
         rose = λ e. d.failed w.if-write_page.true;
@@ -30,6 +31,7 @@ loop-page-preserved g c = elim c.if-stripe-config.branch [
         let one : TriedOne g.J.Journal.has_noted (record { region = c.args.region; page = c.loop-page.page }) false c.loop-page.self v.write_page.new.self = record {
           rest = d.rest;
           went = d.went;
+          owes = d.owes;
           counts = d.counts;
           stays_clean = d.clean;
           rose = λ e. absurd cc;

@@ -1,0 +1,39 @@
+-- What the lanes tell of the pages that owe nothing.
+use Rattle.std.proofs.Common.{◌≡◌, Bool, true, false, List, ℕ, Option, Some, None, IfSome, refl, sym, ap, subst, cond, slice_get}
+use Rattle.std.proofs.lemmas.Bool.{or_parts}
+use Rattle.page_base.specs.declared.keys.Key.{Key}
+use Rattle.page_model.specs.Core.{Core, is_dirty, page_at, why_pending}
+use Rattle.page_model.specs.Setups.{is_told}
+use Rattle.page_model.proofs.Prefixes.{page_region}
+use Rattle.serial_pager.specs.Seen.{StripeSeen}
+use Rattle.serial_pager.specs.Holdings as one
+use Rattle.serial_pager.specs.Pagers.{PagerSeen, core_in, held_in, kept_in, owes_in, has_page, stripe_at, held, kept, owes}
+use Rattle.serial_pager.specs.Sound.{IsSound}
+use Rattle.serial_pager.proofs.Holds.{told_held}
+use Rattle.serial_pager.proofs.Stripes.{stripe_of_pages}
+
+same_kept : (o q : Option (List ℕ)) → q ≡ o → IfSome o (λ bytes. q ≡ Some bytes)
+same_kept None q e = tt
+same_kept (Some bytes) q e = e
+
+-- a page that wasn't told at the start holds nothing that could be told
+pub kept_where_told : (c : Core) (k : Key) → (is_told c.setup k ≡ true → one.told c k ≡ one.held c k) → IfSome (one.held c k) (λ bytes. one.told c k ≡ Some bytes)
+kept_where_told c k same = go (is_told c.setup k) refl
+  where
+    go : (b : Bool) → is_told c.setup k ≡ b → IfSome (one.held c k) (λ bytes. one.told c k ≡ Some bytes)
+    go true told = same_kept (one.held c k) (one.told c k) (same told)
+    go false told = subst (λ o. IfSome o (λ bytes. one.told c k ≡ Some bytes)) (sym (ap (λ b. cond b (one.bytes_or (page_at c k) (one.told c k)) None) told)) tt
+
+module _ {J : Type 0} (p : PagerSeen J) (sound : IsSound p) where
+  -- its lane tells what a page holds that owes nothing
+  pub unowed_kept : (k : Key) → has_page p k ≡ true → owes p k ≡ false → IfSome (held p k) (λ bytes. kept p k ≡ Some bytes)
+  unowed_kept k page free = go (slice_get p.stripes (stripe_at p k)) refl
+    where
+      go : (o : Option (StripeSeen J)) → slice_get p.stripes (stripe_at p k) ≡ o → IfSome (held p k) (λ bytes. kept p k ≡ Some bytes)
+      go None is = subst (λ o. IfSome (held_in (core_in o) k) (λ bytes. kept_in (core_in o) k ≡ Some bytes)) (sym is) tt
+      go (Some x) is =
+          let part = sound.each (stripe_at p k) x is in
+          let its = stripe_of_pages p (stripe_at p k) x.core part k page refl in
+          let home = part.rest.home k.region (page_region x.core.setup k its) in
+          let clean : is_dirty x.core k ≡ false = (or_parts (is_dirty x.core k) (one.is_for_store (why_pending x.core k)) (subst (λ o. owes_in (core_in o) k ≡ false) is free)).0 in
+          subst (λ o. IfSome (held_in (core_in o) k) (λ bytes. kept_in (core_in o) k ≡ Some bytes)) (sym is) (kept_where_told x.core k (λ told. told_held part.rest.history x.core k part.rest.stands home its told clean))
