@@ -1,5 +1,5 @@
 -- A pager whose dirty pages were written, as all its pages see it.
-use Rattle.std.proofs.Common.{◌≡◌, ◌⊎◌, inl, inr, ℕ, zero, suc, ◌+◌, ◌^◌, ◌<◌, ◌≤◌, true, false, List, [], ◌∷◌, length, Option, Some, None, IfSome, slice_get, refl, sym, ap, subst, ◌∙◌, arith}
+use Rattle.std.proofs.Common.{◌≡◌, ◌⊎◌, inl, inr, ℕ, ◌+◌, ◌^◌, ◌<◌, ◌≤◌, true, false, List, length, Option, Some, None, IfSome, slice_get, refl, sym, ap, subst, ◌∙◌, arith}
 use Rattle.std.specs.Option.{option_map}
 use Rattle.std.proofs.lemmas.Option.{slice_get_within}
 use Rattle.histories.specs.Histories.{History}
@@ -18,11 +18,7 @@ use Rattle.serial_pager.specs.Pagers.{PagerSeen, group_in, core_in, held_in, kep
 use Rattle.serial_pager.specs.Sound.{IsSound, Flushes, SomeRose}
 use Rattle.serial_pager.proofs.Kept.{kept_where_told}
 use Rattle.serial_pager.proofs.Stripes.{stripe_of_pages}
-
-pub past : {A : Type 0} (xs : List A) (q : ℕ) → slice_get xs q ≡ None → length xs ≤ q
-past [] q f = omega arith
-past (z ∷ xs) zero f = absurd (cc)
-past (z ∷ xs) (suc q) f = omega (arith, past xs q f)
+use Rattle.serial_pager.proofs.Unmade.{past}
 
 module _ {J : Type 0} (has_noted : J → History Entry → Type 0) (old new : PagerSeen J) (sound : IsSound old) (many : length new.stripes ≡ length old.stripes) (shapes : new.shapes ≡ old.shapes) (size : new.page_size ≡ old.page_size)
     (flushed : (s : ℕ) (x y : StripeSeen J) → slice_get old.stripes s ≡ Some x → slice_get new.stripes s ≡ Some y → Flushes has_noted x y) where

@@ -1,5 +1,5 @@
 -- Stripes that are taken apart, the last first.
-use Rattle.std.proofs.Common.{◌≡◌, ℕ, zero, suc, List, [], ◌∷◌, ◌++◌, length, map, Option, Some, None, slice_get, refl, sym, ap, subst, ◌∙◌, arith, append_assoc, append-nil}
+use Rattle.std.proofs.Common.{◌≡◌, ◌≤◌, ℕ, zero, suc, List, [], ◌∷◌, ◌++◌, length, map, Option, Some, None, slice_get, refl, sym, ap, subst, ◌∙◌, arith, append_assoc, append-nil}
 use Rattle.std.specs.Prelude.{reverse}
 use Rattle.std.specs.Option.{option_map}
 use Rattle.std.proofs.lemmas.List.{reverse-append, length-map}
@@ -34,6 +34,11 @@ reverse_snoc xs x = reverse-append xs (x ∷ [])
 pub reverse_twice : {A : Type 0} (xs : List A) → reverse (reverse xs) ≡ xs
 reverse_twice [] = refl
 reverse_twice (x ∷ xs) = ap reverse (reverse_cons x xs) ∙ reverse_snoc (reverse xs) x ∙ ap (λ ys. x ∷ ys) (reverse_twice xs)
+
+pub past : {A : Type 0} (xs : List A) (q : ℕ) → slice_get xs q ≡ None → length xs ≤ q
+past [] q f = omega arith
+past (z ∷ xs) zero f = absurd (cc)
+past (z ∷ xs) (suc q) f = omega (arith, past xs q f)
 
 -- the lanes that one stripe hands back are those that it has at home
 pub some_is : {A : Type 0} {a b : A} → Some a ≡ Some b → a ≡ b

@@ -141,7 +141,8 @@ impl<S: Store, J: Journal> SerialPager<S, J> {
         )
     }
 
-    /// The lanes tell what each page holds that needn't be written. It does nothing: its contract says so.
+    /// A page that needn't be written is told by its lane as it is held. The call does nothing: its contract is what a caller
+    /// asks for.
     pub fn unowed_is_kept(&self)
         ensures kept { (k : Key) → has_page self.now k ≡ true → owes self.now k ≡ false → IfSome (held self.now k) (λ bytes. kept self.now k ≡ Some bytes) }
     {
