@@ -26,7 +26,7 @@ stored_none rs r off =
     ap (λ (xs : List ℕ). set rs r xs) (ap (λ (n : ℕ). take off (bytes_at rs r) ++ drop n (bytes_at rs r)) (omega arith) ∙ take-append-drop off (bytes_at rs r))
     ∙ set-get_or rs r []
 
-spliced-spliced : (b bytes : List ℕ) (off done n : ℕ) → off + length bytes ≤ length b → done + n ≤ length bytes → spliced (spliced b off (take done bytes)) (off + done) (take n (drop done bytes)) ≡ spliced b off (take (done + n) bytes)
+pub spliced-spliced : (b bytes : List ℕ) (off done n : ℕ) → off + length bytes ≤ length b → done + n ≤ length bytes → spliced (spliced b off (take done bytes)) (off + done) (take n (drop done bytes)) ≡ spliced b off (take (done + n) bytes)
 spliced-spliced b bytes off done n inside fits = same_lists _ _ (search (rules, places)) (λ k d h. grind (arith, places))
 
 module _ (rs now : List (List ℕ)) (bytes : List ℕ) (r off done : ℕ) (region : r < length rs) (inside : off + length bytes ≤ length (bytes_at rs r)) (short : done ≤ length bytes) (is : now ≡ set rs r (spliced (bytes_at rs r) off (take done bytes))) where

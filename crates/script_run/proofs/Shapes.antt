@@ -13,6 +13,7 @@ use Rattle.workload_text.specs.Built.{is_built}
 use Rattle.workload_text.specs.Accepted.{IsRunnable, regions_of}
 use Rattle.workload_text.proofs.RegionLists.{size_at-read}
 use Rattle.script_run.specs.Fits.{pages_of}
+use Rattle.script_run.specs.Running.{shape_of}
 use Rattle.script_run.proofs.Openings.{sizes_small}
 use Rattle.script_run.proofs.Zeros.{regions_are}
 
@@ -22,6 +23,14 @@ maps_small w can built i d below = omega (arith, sizes_small (regions_of (lines_
 pub pages_of_maps : (z : ℕ) (ms : List MapLine) → map (λ (m : MapLine). m.length / z) ms ≡ pages_of z (map region ms)
 pages_of_maps z [] = refl
 pages_of_maps z (m ∷ ms) = ap (λ (ns : List ℕ). m.length / z ∷ ns) (pages_of_maps z ms)
+
+pub shapes_of_maps : (z : ℕ) (ms : List MapLine) → map (λ (m : MapLine). shape_of z (region m)) ms ≡ map (shape_of z) (map region ms)
+shapes_of_maps z [] = refl
+shapes_of_maps z (m ∷ ms) = ap (λ (ss : List RegionShape). shape_of z (region m) ∷ ss) (shapes_of_maps z ms)
+
+pub pages_of_shapes : (z : ℕ) (gs : List Region) → map (λ (s : RegionShape). s.pages) (map (shape_of z) gs) ≡ pages_of z gs
+pages_of_shapes z [] = refl
+pages_of_shapes z (g ∷ gs) = ap (λ (ns : List ℕ). g.size / z ∷ ns) (pages_of_shapes z gs)
 
 -- the pages of all regions, by the `map` lines
 pub all_pages : (w : Workload) (z : ℕ) → sum_by (λ (m : MapLine). m.length / z) w.maps.items ≡ sum (pages_of z (regions_of (lines_of w)))

@@ -10,3 +10,7 @@ three text t1 t2 t3 x y z a b c =
 pub load_reply_some : (bytes : List ℕ) → 0 < length bytes → load_reply bytes ≡ codes "load " ++ (encode_lower bytes ++ 10 ∷ [])
 load_reply_some [] some = absurd (omega arith)
 load_reply_some (b ∷ bytes) some = refl
+
+-- a fault line that is written part by part
+pub fault_text : (t a n p q : List ℕ) → ((((((t ++ a) ++ n) ++ 32 ∷ []) ++ p) ++ 32 ∷ []) ++ q) ++ 10 ∷ [] ≡ t ++ (a ++ (n ++ 32 ∷ (p ++ 32 ∷ (q ++ 10 ∷ []))))
+fault_text t a n p q = simp append_assoc refl

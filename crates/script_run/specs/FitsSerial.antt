@@ -3,6 +3,7 @@
 use Rattle.std.specs.Prelude.{◌≡◌, ℕ, ◌+◌, ◌*◌, ◌/◌, ◌%◌, ◌-◌, ◌^◌, ◌<◌, ◌≤◌, ◌⊎◌, ◌&&◌, ◌||◌, ◌==◌, Bool, true, false, if◌then◌else◌, List, [], ◌∷◌, length, take, drop, is_some, slice_index_or, sum}
 use Rattle.std.specs.List.{flat_map, list_any, list_all, range_with_len}
 use Rattle.page_base.specs.declared.keys.Key.{Key}
+use Rattle.page_base.specs.declared.layout.Layout.{Layout}
 use Rattle.page_base.specs.Lanes.{LaneSeen, Rose, told_at}
 use Rattle.page_base.specs.Pages.{stripe_of}
 use Rattle.workload_text.specs.Line.{Line, map_line, script_line, load_line, store_line}
@@ -16,6 +17,9 @@ use Rattle.script_run.specs.Replies.{Reply, nothing, begun, loaded, ok, fault, r
 pub record Spread : Type 0 where
   pub page_size : ℕ
   pub stripes : ℕ
+
+abbrev pub spread_of : Layout → Spread
+spread_of layout = record { page_size = layout.page_size; stripes = layout.stripes }
 
 abbrev pub stripe_in : Spread → Key → ℕ
 stripe_in t k = stripe_of t.stripes 1 k.region k.page

@@ -4,10 +4,9 @@ pub mod Fits
 pub mod Zeros
 pub mod Streams
 pub mod Rooms
-pub mod Engine
-pub mod Running
-pub mod Residents
-pub mod Frames
 pub mod Replies
 pub mod FitsSerial
 pub mod FitsLaws
+pub mod Ranges
+pub mod Running
+pub mod Ends

@@ -1,19 +1,17 @@
 //! Runs the scripts of a workload one after another.
 //!
-//! It stands on the workload language, on the page table and the page buffer, and on the lanes of backing stores. `serial`
-//! promises the text, the contents and the loaded bytes of the serial meaning in `specs/Serial.antt`, whatever page size,
-//! buffer and stripes are set; its engine keeps never more resident pages than each stripe's quota. Beside it stand what a
-//! run is made of: its settings, the lanes of regions in memory, and the streams that input comes from
-//! and output goes to.
+//! It stands on the workload language, on the lanes of backing stores, and on the pager of one thread. `serial` says what a
+//! run may answer and leave where the stores' calls may fail, by `specs/FitsSerial.antt`; where none failed, that is the
+//! serial meaning of `specs/Serial.antt`, whatever page size, buffer, watermarks and stripes are set. Beside it stand what a
+//! run is made of: its settings, the lanes of regions in memory, and the streams that input comes from and output goes to.
 #![tactic(auto)]
 
 mod access;
-mod engine;
-mod lanes;
 pub mod laws;
 mod memory;
-mod pages;
+mod opening;
 mod replies;
+mod rooms;
 mod serial_run;
 mod settings;
 mod sink;

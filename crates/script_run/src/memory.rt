@@ -8,6 +8,7 @@ ghost use Rattle.workload_text.specs.Accepted.{IsRunnable, regions_of};
 ghost use Rattle.script_run.specs.Serial.{zeros_of};
 ghost use Rattle.script_run.specs.Contents.{rows_in, rows_seen, contents_of};
 ghost use Rattle.script_run.specs.Fits.{FitLanes, has_whole_pages, pages_of};
+ghost use Rattle.script_run.specs.Running.{shape_of};
 ghost use Rattle.script_run.specs.Zeros.{AreSmall, PutsLanes, AreZeroRows};
 
 use crate::settings::Settings;
@@ -164,7 +165,7 @@ pub(crate) fn shapes_of(
 ) -> Result<List<RegionShape>, OutOfMemory>
     requires some { 0 < page_size }
     requires small { All (λ m. m.length ≤ 16777216) workload.now.maps.items }
-    ensures { IfOk result (λ shapes. map (λ s. s.pages) shapes.items ≡ pages_of page_size (regions_of (lines_of workload.now))) }
+    ensures { IfOk result (λ shapes. shapes.items ≡ map (shape_of page_size) (regions_of (lines_of workload.now))) }
 {
     let maps = workload.maps.as_slice();
     let mut shapes = List::new(alloc);

@@ -3,7 +3,10 @@
 //! All room is taken before the first line runs: nothing here takes memory.
 ghost use Rattle.std.specs.Prelude.{◌≡◌, ◌+◌, ◌*◌, ◌<◌, ◌≤◌, ◌++◌, ◌∷◌, [], length, sum, codes, vec_len, IfOk};
 ghost use Rattle.hex.specs.Hex.{encode_lower};
+ghost use Rattle.std.specs.Prelude.{true, false};
+ghost use Rattle.std.specs.Fmt.{decimal};
 ghost use Rattle.script_run.specs.Serial.{load_reply};
+ghost use Rattle.script_run.specs.Replies.{fault_reply};
 
 use page_base::{Bytes, OutOfMemory};
 use std::alloc::Global;
@@ -17,6 +20,7 @@ pub(crate) struct Replies {
     pub(crate) text: Bytes,
     pub(crate) loaded: u64,
     pub(crate) sum: u64,
+    pub(crate) faulted: bool,
     digits: Vec<u8>,
     ghost few: { loaded ≤ 33554432 },
     ghost bytes: { sum ≤ 255 * loaded },
@@ -50,6 +54,16 @@ fn put_hex(text: &mut Bytes, digits: &mut [u8], bytes: &[u8])
     }
 }
 
+/// Appends a number in decimal.
+fn put_decimal(text: &mut Bytes, number: u64)
+    requires room { length (decimal number) ≤ text.old.spare }
+    ensures items { text.new.items ≡ text.old.items ++ decimal number }
+    ensures spare { text.new.spare + length (decimal number) ≡ text.old.spare }
+{
+    let mut buffer = itoa::Buffer::new();
+    text.put_all(buffer.format(number).as_bytes());
+}
+
 impl Replies {
     /// No reply yet, and room for so many bytes of them.
     pub(crate) fn with_room(alloc: Global, room: usize) -> Result<Replies, OutOfMemory>
@@ -57,6 +71,7 @@ impl Replies {
         ensures room { IfOk result (λ r. room ≤ r.text.spare) }
         ensures loaded { IfOk result (λ r. r.loaded ≡ 0) }
         ensures sum { IfOk result (λ r. r.sum ≡ 0) }
+        ensures faulted { IfOk result (λ r. r.faulted ≡ false) }
     {
         let mut text = Bytes::new(alloc);
         text.reserve(room)?;
@@ -65,6 +80,7 @@ impl Replies {
                 text,
                 loaded: 0,
                 sum: 0,
+                faulted: false,
                 digits,
             }),
             Err(_) => Err(OutOfMemory),
@@ -83,6 +99,7 @@ impl Replies {
         ensures spare { self.old.text.spare ≤ self.new.text.spare + (length name.now + 8) }
         ensures loaded { self.new.loaded ≡ self.old.loaded }
         ensures sum { self.new.sum ≡ self.old.sum }
+        ensures faulted { self.new.faulted ≡ self.old.faulted }
     {
         self.text.put_all(b"script ");
         self.text.put_all(name);
@@ -95,8 +112,28 @@ impl Replies {
         ensures spare { self.old.text.spare ≤ self.new.text.spare + 3 }
         ensures loaded { self.new.loaded ≡ self.old.loaded }
         ensures sum { self.new.sum ≡ self.old.sum }
+        ensures faulted { self.new.faulted ≡ self.old.faulted }
     {
         self.text.put_all(b"ok\n");
+    }
+
+    /// A fault of a page of the region of this name, with the count of the page's lane.
+    pub(crate) fn fault(&mut self, name: &[u8], page: u32, count: u64)
+        requires room { length name.now + 39 ≤ self.old.text.spare }
+        ensures text { self.new.text.items ≡ self.old.text.items ++ fault_reply name.now page count }
+        ensures spare { self.old.text.spare ≤ self.new.text.spare + (length name.now + 39) }
+        ensures loaded { self.new.loaded ≡ self.old.loaded }
+        ensures sum { self.new.sum ≡ self.old.sum }
+        ensures faulted { self.new.faulted ≡ true }
+    {
+        self.text.put_all(b"fault ");
+        self.text.put_all(name);
+        self.text.put(b' ');
+        put_decimal(&mut self.text, u64::from(page));
+        self.text.put(b' ');
+        put_decimal(&mut self.text, count);
+        self.text.put(b'\n');
+        self.faulted = true;
     }
 
     pub(crate) fn load(&mut self, bytes: &[u8])
@@ -107,6 +144,7 @@ impl Replies {
         ensures spare { self.old.text.spare ≤ self.new.text.spare + (2 * length bytes.now + 6) }
         ensures loaded { self.new.loaded ≡ self.old.loaded + length bytes.now }
         ensures sum { self.new.sum ≡ self.old.sum + sum bytes.now }
+        ensures faulted { self.new.faulted ≡ self.old.faulted }
     {
         if bytes.is_empty() {
             self.text.put_all(b"load\n");

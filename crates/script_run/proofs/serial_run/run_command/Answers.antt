@@ -1,26 +1,122 @@
-use Rattle.std.proofs.Common.{◌≡◌, ℕ, List, length, take, drop, set, ap, ◌∙◌, arith, length-take}
-use Rattle.page_base.specs.ListSeen.{spliced}
-use Rattle.script_run.specs.Serial.{bytes_at}
-use Rattle.script_run.proofs.Commands.{load_range, store_range, ran_load, ran_store}
+use Rattle.std.proofs.Common.{◌≡◌, ◌∷◌, [], List, length, take, drop, sym, ap, subst, ◌∙◌, arith, length-take}
+use Rattle.workload_text.specs.Line.{Line, load_line, store_line}
+use Rattle.workload_text.specs.View.{lines_of}
+use Rattle.workload_text.specs.Accepted.{regions_of}
+use Rattle.script_run.specs.FitsSerial.{Spread}
+use Rattle.script_run.specs.Running.{MayRun, Ran}
+use Rattle.script_run.specs.Ranges.{IsRange, GoesOn, FaultsAt}
+use Rattle.script_run.proofs.RanOne.{range_is, writable_is, fault_known, ran_load, ran_load_fault, ran_store, ran_store_fault}
 use Rattle.script_run.proofs.serial_run.run_command.Goals as goal
 
-pub returns-in-Store : goal.returns-in-Store
-returns-in-Store c =
-    let a = c.in-Store in
-    let e = c.args.engine.now in
-    let o = c.ok.ensures in
-    rw a.is (ran_store a.region a.off a.bytes.items c.args.replies.now c.ok.new.self e c.store.new.engine
-    (store_range a.region a.off a.bytes.items c.args.replies.now e.regions (rw a.is at c.requires.may))
-    (c.store.ensures.regions ∙ ap (λ (xs : List ℕ). set e.regions a.region (spliced (bytes_at e.regions a.region) a.off xs)) c.as_slice.ensures)
-    c.store.ensures.page_size c.store.ensures.origins o.text o.spare o.loaded o.sum)
-
-pub returns-in-Load : goal.returns-in-Load
-returns-in-Load c =
+pub load-requires : goal.load-requires
+load-requires g c =
     let a = c.in-Load in
-    let e = c.args.engine.now in
-    let o = c.load-in-Load.ensures in
-    let range = load_range a.region a.off a.len c.args.replies.now e.regions (rw a.is at c.requires.may) in
-    let part : length (take a.len c.args.buf.now) ≡ a.len = omega (arith, range.short, c.requires.wide, length-take a.len c.args.buf.now) in
-    rw a.is (ran_load a.region a.off a.len c.args.replies.now c.load-in-Load.new.self e c.load.new.engine c.load.new.buf range
-    (c.load.ensures.bytes ∙ ap (λ (n : ℕ). take n (drop a.off (bytes_at e.regions a.region))) part)
-    c.load.ensures.regions c.load.ensures.page_size c.load.ensures.origins o.text o.spare o.loaded o.sum)
+    let gs = regions_of (lines_of c.args.workload.now) in
+    let p = c.args.pager.now in
+    let t : Spread = c.requires.may.0 in
+    let m : MayRun t gs (load_line a.region a.off a.len ∷ []) c.args.replies.now p = rw a.is at c.requires.may.1 in
+    let fit = m.fit.0 in
+    let part : length (take a.len c.args.buf.now) ≡ a.len = omega (arith, fit.short, c.requires.wide, length-take a.len c.args.buf.now) in
+    subst (λ n. IsRange p a.region a.off n) (sym part) (range_is t gs p m.shaped a.region a.off a.len fit.known fit.inside fit.short (omega (arith, m.pieces)))
+
+pub store-requires-clause-range : goal.store-requires-clause-range
+store-requires-clause-range g c =
+    let a = c.in-Store in
+    let gs = regions_of (lines_of c.args.workload.now) in
+    let p = c.args.pager.now in
+    let t : Spread = c.requires.may.0 in
+    let m : MayRun t gs (store_line a.region a.off a.bytes.items ∷ []) c.args.replies.now p = rw a.is at c.requires.may.1 in
+    let fit = m.fit.0 in
+    let long : length c.as_slice.result.now ≡ length a.bytes.items = ap length c.as_slice.ensures in
+    subst (λ n. IsRange p a.region a.off n) (sym long) (range_is t gs p m.shaped a.region a.off (length a.bytes.items) fit.range.known fit.range.inside fit.range.short (omega (arith, m.pieces)))
+
+pub store-requires-clause-writable : goal.store-requires-clause-writable
+store-requires-clause-writable g c =
+    let a = c.in-Store in
+    let gs = regions_of (lines_of c.args.workload.now) in
+    let p = c.args.pager.now in
+    let t : Spread = c.requires.may.0 in
+    let m : MayRun t gs (store_line a.region a.off a.bytes.items ∷ []) c.args.replies.now p = rw a.is at c.requires.may.1 in
+    let fit = m.fit.0 in
+    let long : length c.as_slice.result.now ≡ length a.bytes.items = ap length c.as_slice.ensures in
+    writable_is t gs p m.shaped a.region fit.writable
+
+pub tell_fault-requires-clause-region : goal.tell_fault-requires-clause-region
+tell_fault-requires-clause-region g c =
+    let a = c.in-Load in
+    let gs = regions_of (lines_of c.args.workload.now) in
+    let p = c.args.pager.now in
+    let t : Spread = c.requires.may.0 in
+    let m : MayRun t gs (load_line a.region a.off a.len ∷ []) c.args.replies.now p = rw a.is at c.requires.may.1 in
+    let fit = m.fit.0 in
+    let part : length (take a.len c.args.buf.now) ≡ a.len = omega (arith, fit.short, c.requires.wide, length-take a.len c.args.buf.now) in
+    fault_known t gs p c.load.new.pager a.region a.off (length (take a.len c.args.buf.now)) c.in-Err.ensures.fault.0 (λ k. ⊥) c.in-Err.fault m.shaped c.in-Err.ensures.fault.1
+
+pub tell_fault-requires-in-Err-store-clause-region : goal.tell_fault-requires-in-Err-store-clause-region
+tell_fault-requires-in-Err-store-clause-region g c =
+    let a = c.in-Store in
+    let gs = regions_of (lines_of c.args.workload.now) in
+    let p = c.args.pager.now in
+    let t : Spread = c.requires.may.0 in
+    let m : MayRun t gs (store_line a.region a.off a.bytes.items ∷ []) c.args.replies.now p = rw a.is at c.requires.may.1 in
+    let fit = m.fit.0 in
+    let long : length c.as_slice.result.now ≡ length a.bytes.items = ap length c.as_slice.ensures in
+    fault_known t gs p c.store.new.pager a.region a.off (length c.as_slice.result.now) c.in-Err-store.ensures.fault.0 _ c.in-Err-store.fault m.shaped c.in-Err-store.ensures.fault.1
+
+pub returns-in-Ok : goal.returns-in-Ok
+returns-in-Ok g c =
+    let a = c.in-Load in
+    let gs = regions_of (lines_of c.args.workload.now) in
+    let p = c.args.pager.now in
+    let t : Spread = c.requires.may.0 in
+    let m : MayRun t gs (load_line a.region a.off a.len ∷ []) c.args.replies.now p = rw a.is at c.requires.may.1 in
+    let fit = m.fit.0 in
+    let part : length (take a.len c.args.buf.now) ≡ a.len = omega (arith, fit.short, c.requires.wide, length-take a.len c.args.buf.now) in
+    let o = c.load-in-Ok.ensures in
+    rw a.is (λ (t : Spread) (before : List Line) shaped.
+    ran_load t gs p shaped before a.region a.off c.args.replies.now c.load-in-Ok.new.self c.load.new.pager fit.known a.len c.load.new.buf (c.load.auto.buf ∙ part) fit.short (subst (λ n. GoesOn n p c.load.new.pager) part c.load.ensures.goes) c.load.ensures.held c.load.ensures.owes
+    (λ b h. c.in-Ok.ensures.bytes b h ∙ ap (λ n. take n (drop a.off b)) part) o.text o.spare o.loaded o.sum o.faulted)
+
+pub returns-in-Err : goal.returns-in-Err
+returns-in-Err g c =
+    let a = c.in-Load in
+    let gs = regions_of (lines_of c.args.workload.now) in
+    let p = c.args.pager.now in
+    let t : Spread = c.requires.may.0 in
+    let m : MayRun t gs (load_line a.region a.off a.len ∷ []) c.args.replies.now p = rw a.is at c.requires.may.1 in
+    let fit = m.fit.0 in
+    let part : length (take a.len c.args.buf.now) ≡ a.len = omega (arith, fit.short, c.requires.wide, length-take a.len c.args.buf.now) in
+    let o = c.tell_fault.ensures in
+    let f = c.in-Err.ensures.fault in
+    rw a.is (λ (t : Spread) (before : List Line) shaped.
+    ran_load_fault t gs p shaped before a.region a.off c.args.replies.now c.tell_fault.new.replies c.load.new.pager fit.known a.len f.0 c.in-Err.fault [] fit.short (subst (λ n. GoesOn n p c.load.new.pager) part c.load.ensures.goes) c.load.ensures.held c.load.ensures.owes
+    (subst (λ n. FaultsAt p c.load.new.pager a.region a.off n (λ k. ⊥) f.0 c.in-Err.fault) part f.1) o.text o.spare o.loaded o.sum o.faulted)
+
+pub returns-in-Ok-store : goal.returns-in-Ok-store
+returns-in-Ok-store g c =
+    let a = c.in-Store in
+    let gs = regions_of (lines_of c.args.workload.now) in
+    let p = c.args.pager.now in
+    let t : Spread = c.requires.may.0 in
+    let m : MayRun t gs (store_line a.region a.off a.bytes.items ∷ []) c.args.replies.now p = rw a.is at c.requires.may.1 in
+    let fit = m.fit.0 in
+    let long : length c.as_slice.result.now ≡ length a.bytes.items = ap length c.as_slice.ensures in
+    let o = c.ok.ensures in
+    rw a.is (λ (t : Spread) (before : List Line) shaped.
+    subst (λ xs. Ran t gs before (store_line a.region a.off xs ∷ []) c.args.replies.now c.ok.new.self p c.store.new.pager) c.as_slice.ensures
+    (ran_store t gs p shaped before a.region a.off c.args.replies.now c.ok.new.self c.store.new.pager fit.range.known c.as_slice.result.now (omega (arith, long, fit.range.short)) c.store.ensures.goes c.store.ensures.others c.store.ensures.owes c.in-Ok-store.ensures.done o.text o.spare o.loaded o.sum o.faulted))
+
+pub returns-in-Err-store : goal.returns-in-Err-store
+returns-in-Err-store g c =
+    let a = c.in-Store in
+    let gs = regions_of (lines_of c.args.workload.now) in
+    let p = c.args.pager.now in
+    let t : Spread = c.requires.may.0 in
+    let m : MayRun t gs (store_line a.region a.off a.bytes.items ∷ []) c.args.replies.now p = rw a.is at c.requires.may.1 in
+    let fit = m.fit.0 in
+    let long : length c.as_slice.result.now ≡ length a.bytes.items = ap length c.as_slice.ensures in
+    let o = c.tell_fault-in-Err-store.ensures in
+    let f = c.in-Err-store.ensures.fault in
+    rw a.is (λ (t : Spread) (before : List Line) shaped.
+    subst (λ xs. Ran t gs before (store_line a.region a.off xs ∷ []) c.args.replies.now c.tell_fault-in-Err-store.new.replies p c.store.new.pager) c.as_slice.ensures
+    (ran_store_fault t gs p shaped before a.region a.off c.args.replies.now c.tell_fault-in-Err-store.new.replies c.store.new.pager fit.range.known c.as_slice.result.now (omega (arith, long, fit.range.short)) c.store.ensures.goes c.store.ensures.others c.store.ensures.owes f.0 c.in-Err-store.fault f.1 f.2 o.text o.spare o.loaded o.sum o.faulted))

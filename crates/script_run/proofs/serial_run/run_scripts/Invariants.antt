@@ -1,8 +1,10 @@
-use Rattle.std.proofs.Common.{◌++◌, take, map}
+use Rattle.std.proofs.Common.{[], ◌++◌, map, take}
 use Rattle.std.specs.List.{flat_map}
-use Rattle.workload_text.specs.View.{region_line, script_lines}
-use Rattle.script_run.specs.Running.{Ran}
+use Rattle.workload_text.specs.View.{lines_of, region_line, script_lines}
+use Rattle.workload_text.specs.Accepted.{regions_of}
+use Rattle.script_run.specs.FitsSerial.{Spread}
+use Rattle.script_run.specs.Running.{IsShaped, Ran}
 use Rattle.script_run.proofs.serial_run.run_scripts.Given as goal
 
 abbrev pub invariant-loop-i : goal.invariant-loop-i
-invariant-loop-i l = Ran (map region_line l.fn.workload.maps.items ++ flat_map script_lines (take l.i l.scripts)) l.fn.replies l.replies l.fn.engine l.engine
+invariant-loop-i g l = (t : Spread) → IsShaped t (regions_of (lines_of l.fn.workload)) l.fn.pager → Ran t (regions_of (lines_of l.fn.workload)) [] (map region_line l.fn.workload.maps.items ++ flat_map script_lines (take l.i l.scripts)) l.fn.replies l.replies l.fn.pager l.pager

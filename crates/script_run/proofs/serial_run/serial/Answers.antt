@@ -1,48 +1,42 @@
-use Rattle.std.proofs.Common.{List, ℕ, ap, sym, subst, ◌∙◌, arith}
+use Rattle.std.proofs.Common.{[], refl, ap, arith}
 use Rattle.workload_text.specs.View.{lines_of}
 use Rattle.workload_text.specs.Accepted.{regions_of}
-use Rattle.script_run.specs.Fits.{pages_of}
-use Rattle.script_run.specs.Running.{AreRegions}
-use Rattle.script_run.proofs.Openings.{fit_rows, pages_fit, regions_fit}
-use Rattle.script_run.proofs.Shapes.{maps_small, few_pages}
-use Rattle.script_run.proofs.Runs.{rooms_bounded}
+use Rattle.serial_pager.specs.Pagers.{rows_of}
+use Rattle.script_run.specs.FitsSerial.{spread_of}
+use Rattle.script_run.specs.Running.{Ran}
+use Rattle.script_run.proofs.SerialFits.{may_run, run_origins, fits_serial}
 use Rattle.script_run.proofs.serial_run.serial.Goals as goal
 
-pub new-requires-clause-fit : goal.new-requires-clause-fit
-new-requires-clause-fit c = fit_rows c.args.settings.now.layout (regions_of (lines_of c.args.workload.now)) c.args.lanes.stripes.items c.requires.lanes
-
-pub room_of-requires : goal.room_of-requires
-room_of-requires c =
-    let lines = lines_of c.args.workload.now in
-    let can = c.requires.runnable in
-    omega (arith, rooms_bounded (regions_of lines) lines can.fit, can.loaded, can.commands, can.scripts)
-
 pub run_scripts-requires-clause-may : goal.run_scripts-requires-clause-may
-run_scripts-requires-clause-may c =
+run_scripts-requires-clause-may g c = (
+  spread_of c.args.settings.now.layout,
+  may_run c.args.settings.now.layout (lines_of c.args.workload.now) (rows_of g.S.Store.seen c.args.lanes) c.requires.runnable c.requires.built c.in-Ok.replies c.in-Ok-open_pager.pager c.in-Ok-open_pager.ensures.opened
+      (omega (arith, c.in-Some.ensures, c.in-Ok.ensures.room)) c.in-Ok.ensures.loaded,
+)
+
+pub write_dirty-failed-requires : goal.write_dirty-failed-requires
+write_dirty-failed-requires g c =
     let lines = lines_of c.args.workload.now in
-    record {
-      regions = regions_of lines;
-      built = c.requires.built;
-      fit = c.requires.runnable.fit;
-      sized = subst (λ (b : List (List ℕ)). AreRegions (regions_of lines) b) (sym c.in-Ok-new.ensures.regions) (regions_fit c.args.settings.now.layout lines c.args.lanes.stripes.items c.requires.lanes c.requires.built c.requires.runnable.fit);
-      room = omega (arith, c.room_of.ensures, c.in-Ok.ensures.room);
-      few = omega (arith, c.in-Ok.ensures.loaded, c.requires.runnable.loaded);
-    }
+    let opened = c.in-Ok-open_pager.ensures.opened in
+    let ran : Ran (spread_of c.args.settings.now.layout) (regions_of lines) [] lines c.in-Ok.replies c.run_scripts.new.replies c.in-Ok-open_pager.pager c.run_scripts.new.pager = c.run_scripts.ensures (spread_of c.args.settings.now.layout) opened.shaped in
+    record { few = omega (arith, ran.pieces, opened.spent, c.requires.runnable.commands) }
 
-pub shapes_of-requires-clause-small : goal.shapes_of-requires-clause-small
-shapes_of-requires-clause-small c = maps_small c.args.workload.now c.requires.runnable c.requires.built
-
-pub new-requires-clause-pages : goal.new-requires-clause-pages
-new-requires-clause-pages c =
+pub returns-clause-fits : goal.returns-clause-fits
+returns-clause-fits g c =
+    let lines = lines_of c.args.workload.now in
     let layout = c.args.settings.now.layout in
-    let gs = regions_of (lines_of c.args.workload.now) in
-    c.in-Ok-shapes_of.ensures
-    ∙ ap (λ (z : ℕ). pages_of z gs) c.page_size.ensures
-    ∙ sym (pages_fit layout gs c.args.lanes.stripes.items c.requires.lanes)
+    let opened = c.in-Ok-open_pager.ensures.opened in
+    let ran : Ran (spread_of layout) (regions_of lines) [] lines c.in-Ok.replies c.run_scripts.new.replies c.in-Ok-open_pager.pager c.run_scripts.new.pager = c.run_scripts.ensures (spread_of layout) opened.shaped in
+    let w = c.write_dirty-failed.ensures in
+    fits_serial layout lines (rows_of g.S.Store.seen c.args.lanes) (rows_of g.S.Store.seen c.into_parts-lanes.result.0) c.requires.lanes c.requires.runnable.fit c.in-Ok.replies c.run_scripts.new.replies c.in-Ok-open_pager.pager c.run_scripts.new.pager c.write_dirty-failed.new.self opened ran w.same c.into_parts-lanes.ensures.lanes
+    w.held w.counts _ w.entries w.tried c.write_dirty-failed.result w.failed w.stored
+    (record { text = c.into_text.result.items; faulted = c.is_faulted-faulted.result; loaded = c.run_scripts.new.replies.loaded; sum = c.run_scripts.new.replies.sum })
+    (ap (λ (b : _). b.items) c.into_text.ensures) c.is_faulted-faulted.ensures refl refl c.in-Ok.ensures.empty c.in-Ok.ensures.faulted c.in-Ok.ensures.loaded c.in-Ok.ensures.sum
 
-pub new-requires-clause-few : goal.new-requires-clause-few
-new-requires-clause-few c =
+pub returns-clause-origins : goal.returns-clause-origins
+returns-clause-origins g c =
+    let lines = lines_of c.args.workload.now in
     let layout = c.args.settings.now.layout in
-    let gs = regions_of (lines_of c.args.workload.now) in
-    few_pages c.in-Ok-shapes_of.shapes.items (pages_of layout.page_size gs)
-    (c.in-Ok-shapes_of.ensures ∙ ap (λ (z : ℕ). pages_of z gs) c.page_size.ensures) c.requires.pages
+    let opened = c.in-Ok-open_pager.ensures.opened in
+    let ran : Ran (spread_of layout) (regions_of lines) [] lines c.in-Ok.replies c.run_scripts.new.replies c.in-Ok-open_pager.pager c.run_scripts.new.pager = c.run_scripts.ensures (spread_of layout) opened.shaped in
+    run_origins layout lines (rows_of g.S.Store.seen c.args.lanes) (rows_of g.S.Store.seen c.into_parts-lanes.result.0) c.requires.lanes c.requires.runnable.fit c.in-Ok.replies c.run_scripts.new.replies c.in-Ok-open_pager.pager c.run_scripts.new.pager c.write_dirty-failed.new.self opened ran c.write_dirty-failed.ensures.same c.into_parts-lanes.ensures.lanes

@@ -1,0 +1,103 @@
+-- Loops over items of a workload, each of which is some lines.
+use Rattle.std.proofs.Common.{◌≡◌, ℕ, ◌+◌, ◌*◌, ◌<◌, ◌||◌, Bool, true, false, List, [], ◌∷◌, ◌++◌, length, take, drop, map, get_or, refl, sym, ap, subst, ◌∙◌, arith, append_assoc, append-nil}
+use Rattle.std.specs.List.{flat_map}
+use Rattle.std.proofs.lemmas.Bool.{and_parts, and_from}
+use Rattle.std.proofs.lemmas.List.{take-append-drop, drop_more, take_more}
+use Rattle.std.proofs.lemmas.List.Concat.{flat_map-append}
+use Rattle.page_model.specs.declared.journal.NoJournal.{NoJournal}
+use Rattle.serial_pager.specs.Pagers.{PagerSeen, IsSame}
+use Rattle.workload_text.specs.Line.{Line}
+use Rattle.workload_text.specs.Grammar.{Region}
+use Rattle.workload_text.specs.Accepted.{AllFit}
+use Rattle.workload_text.specs.Built.{is_built, is_built_line}
+use Rattle.workload_text.specs.View.{region_line}
+use Rattle.workload_text.specs.declared.workload.MapLine.{MapLine}
+use Rattle.script_run.specs.Replies.{nothing}
+use Rattle.script_run.specs.FitsSerial.{Spread}
+use Rattle.script_run.specs.Ranges.{pages_at}
+use Rattle.script_run.specs.Running.{IsShaped, MayRun, behind, Ran}
+use Rattle.script_run.specs.declared.replies.Replies.{Replies}
+use Rattle.script_run.proofs.Ranged.{same_pages, goes_none}
+use Rattle.script_run.proofs.RanLines.{ran_none, ran_more, ran_one, rooms-append, bytes-append, commands-append}
+use Rattle.script_run.proofs.RanOne.{shows_same, counts_same}
+
+AllFit-split : (gs : List Region) (xs ys : List Line) → AllFit gs (xs ++ ys) → AllFit gs xs × AllFit gs ys
+AllFit-split gs [] ys h = (tt, h)
+AllFit-split gs (x ∷ xs) ys h = let s = AllFit-split gs xs ys h.1 in ((h.0, s.0), s.1)
+
+built-split : (xs ys : List Line) → is_built (xs ++ ys) ≡ true → (is_built xs ≡ true) × (is_built ys ≡ true)
+built-split [] ys h = (refl, h)
+built-split (x ∷ xs) ys h =
+    let p = and_parts (is_built_line x) (is_built (xs ++ ys)) h in
+    let s = built-split xs ys p.1 in
+    (and_from (is_built_line x) (is_built xs) p.0 s.0, s.1)
+
+module _ (t : Spread) (gs : List Region) where
+  pub shaped_same : (p q : PagerSeen NoJournal) → IsShaped t gs p → IsSame p q → IsShaped t gs q
+  shaped_same p q h s = record {
+    some = h.some;
+    page_size = s.page_size ∙ h.page_size;
+    stripes = s.stripes ∙ h.stripes;
+    shapes = s.shapes ∙ h.shapes;
+    whole = λ r below. h.whole r below ∙ ap (λ n. n * p.page_size) (sym (same_pages p q s r)) ∙ ap (λ z. pages_at q r * z) (sym s.page_size);
+    small = h.small;
+  }
+
+  pub may_first : (xs ys : List Line) (r : Replies) (p : PagerSeen NoJournal) → MayRun t gs (xs ++ ys) r p → MayRun t gs xs r p
+  may_first xs ys r p m = record {
+    built = (built-split xs ys m.built).0;
+    fit = (AllFit-split gs xs ys m.fit).0;
+    shaped = m.shaped;
+    room = omega (arith, m.room, rooms-append gs xs ys);
+    few = omega (arith, m.few, bytes-append xs ys);
+    pieces = omega (arith, m.pieces, commands-append xs ys);
+  }
+
+  pub may_rest : (before xs ys : List Line) (r0 r1 : Replies) (p q : PagerSeen NoJournal) → MayRun t gs (xs ++ ys) r0 p → Ran t gs before xs r0 r1 p q → MayRun t gs ys r1 q
+  may_rest before xs ys r0 r1 p q m ran = record {
+    built = (built-split xs ys m.built).1;
+    fit = (AllFit-split gs xs ys m.fit).1;
+    shaped = shaped_same p q m.shaped ran.same;
+    room = omega (arith, m.room, ran.spare, rooms-append gs xs ys);
+    few = omega (arith, m.few, ran.loaded, ran.within, bytes-append xs ys);
+    pieces = omega (arith, m.pieces, ran.pieces, commands-append xs ys);
+  }
+
+  module _ {X : Type 0} (pre : List Line) (f : X → List Line) (items : List X) (i : ℕ) (x : X) (below : i < length items) (is : x ≡ get_or items i x) where
+    parts : pre ++ flat_map f items ≡ (pre ++ flat_map f (take i items)) ++ (f x ++ flat_map f (drop (i + 1) items))
+    parts =
+        ap (λ (ls : List Line). pre ++ ls)
+        (ap (flat_map f) (sym (take-append-drop i items))
+        ∙ flat_map-append f (take i items) (drop i items)
+        ∙ ap (λ (xs : List X). flat_map f (take i items) ++ flat_map f xs) (drop_more items i x below ∙ ap (λ (y : X). y ∷ drop (i + 1) items) (sym is)))
+        ∙ sym (append_assoc pre (flat_map f (take i items)) (f x ++ flat_map f (drop (i + 1) items)))
+
+    pub may_item : (before : List Line) (r0 r1 : Replies) (p q : PagerSeen NoJournal) → MayRun t gs (pre ++ flat_map f items) r0 p → Ran t gs before (pre ++ flat_map f (take i items)) r0 r1 p q → MayRun t gs (f x) r1 q
+    may_item before r0 r1 p q m ran =
+        may_first (f x) (flat_map f (drop (i + 1) items)) r1 q
+        (may_rest before (pre ++ flat_map f (take i items)) (f x ++ flat_map f (drop (i + 1) items)) r0 r1 p q (subst (λ (ls : List Line). MayRun t gs ls r0 p) parts m) ran)
+
+    pub ran_item : (before : List Line) (r0 r1 r2 : Replies) (p q z : PagerSeen NoJournal) → Ran t gs before (pre ++ flat_map f (take i items)) r0 r1 p q → Ran t gs (behind before (pre ++ flat_map f (take i items))) (f x) r1 r2 q z → Ran t gs before (pre ++ flat_map f (take (i + 1) items)) r0 r2 p z
+    ran_item before r0 r1 r2 p q z a b =
+        subst (λ (ls : List Line). Ran t gs before ls r0 r2 p z)
+        (append_assoc pre (flat_map f (take i items)) (f x)
+        ∙ ap (λ (ls : List Line). pre ++ ls)
+        (ap (λ (ls : List Line). flat_map f (take i items) ++ ls) (sym (append-nil (f x)))
+        ∙ sym (flat_map-append f (take i items) (x ∷ []))
+        ∙ ap (flat_map f) (ap (λ (y : X). take i items ++ y ∷ []) is ∙ sym (take_more items i x below))))
+        (ran_more t gs before (pre ++ flat_map f (take i items)) (f x) r0 r1 r2 p q z a b)
+
+  -- `map` lines say nothing
+  ran_map : (before : List Line) (m : MapLine) (r : Replies) (p : PagerSeen NoJournal) → IsShaped t gs p → Ran t gs before (region_line m ∷ []) r r p p
+  ran_map before m r p shaped =
+      ran_one t gs before (region_line m) nothing 0 r r p p (sym (append-nil r.text.items)) (omega arith) (omega arith) (omega arith) (omega arith) (or_none r.faulted)
+      (λ told regions shows. (tt, shows_same t gs p shaped told before (region_line m) regions p 0 (goes_none p) shows (λ k has. refl) (λ k e. e)))
+      (counts_same t gs p shaped p 0 (goes_none p)) (goes_none p) (omega arith)
+    where
+      or_none : (x : Bool) → x ≡ (x || false)
+      or_none true = refl
+      or_none false = refl
+
+  pub ran_maps : (before : List Line) (ms : List MapLine) (r : Replies) (p : PagerSeen NoJournal) → IsShaped t gs p → Ran t gs before (map region_line ms) r r p p
+  ran_maps before [] r p shaped = ran_none t gs before r p
+  ran_maps before (m ∷ ms) r p shaped = ran_more t gs before (region_line m ∷ []) (map region_line ms) r r r p p p (ran_map before m r p shaped) (ran_maps (region_line m ∷ before) ms r p shaped)

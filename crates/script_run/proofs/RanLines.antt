@@ -1,0 +1,169 @@
+-- Lines that run one after another.
+use Rattle.std.proofs.Common.{◌≡◌, ℕ, ◌+◌, ◌*◌, ◌≤◌, ◌||◌, Bool, true, false, List, [], ◌∷◌, ◌++◌, length, sum, refl, sym, ap, subst, ◌∙◌, arith, append_assoc, append-nil, length-append}
+use Rattle.std.specs.List.{flat_map, list_any}
+use Rattle.std.proofs.lemmas.List.Concat.{flat_map-append}
+use Rattle.std.proofs.lemmas.List.Sums.{sum_by-append}
+use Rattle.page_model.specs.declared.journal.NoJournal.{NoJournal}
+use Rattle.serial_pager.specs.Pagers.{PagerSeen, count_at}
+use Rattle.workload_text.specs.Line.{Line, map_line, script_line, load_line, store_line, prefetch_line, flush_line, unmap_line}
+use Rattle.workload_text.specs.Grammar.{Region}
+use Rattle.workload_text.specs.Accepted.{loaded_bytes, command_count}
+use Rattle.script_run.specs.Rooms.{room, rooms}
+use Rattle.script_run.specs.Replies.{Reply, reply_text, replies_text, is_fault, bytes_shown}
+use Rattle.script_run.specs.FitsSerial.{Spread, MayAnswer, AllAnswer, left, left_by, count_in, counts_named, Rising, last_count, CountsFit}
+use Rattle.script_run.specs.Ranges.{GoesOn}
+use Rattle.script_run.specs.Running.{Shows, behind, Ran}
+use Rattle.script_run.specs.declared.replies.Replies.{Replies}
+use Rattle.script_run.proofs.Ranged.{same_more}
+
+pub rooms-append : (gs : List Region) (xs ys : List Line) → rooms gs (xs ++ ys) ≡ rooms gs xs + rooms gs ys
+rooms-append gs [] ys = omega arith
+rooms-append gs (x ∷ xs) ys = omega (arith, rooms-append gs xs ys)
+
+bytes_cons : (x : Line) (xs : List Line) → loaded_bytes (x ∷ xs) ≡ loaded_bytes (x ∷ []) + loaded_bytes xs
+bytes_cons (map_line name kept size writable) xs = omega arith
+bytes_cons (script_line name) xs = omega arith
+bytes_cons (load_line r off len) xs = omega arith
+bytes_cons (store_line r off bytes) xs = omega arith
+bytes_cons (prefetch_line r off len) xs = omega arith
+bytes_cons flush_line xs = omega arith
+bytes_cons (unmap_line r) xs = omega arith
+
+pub bytes-append : (xs ys : List Line) → loaded_bytes (xs ++ ys) ≡ loaded_bytes xs + loaded_bytes ys
+bytes-append [] ys = omega arith
+bytes-append (x ∷ xs) ys = omega (arith, bytes_cons x (xs ++ ys), bytes_cons x xs, bytes-append xs ys)
+
+commands_cons : (x : Line) (xs : List Line) → command_count (x ∷ xs) ≡ command_count (x ∷ []) + command_count xs
+commands_cons (map_line name kept size writable) xs = omega arith
+commands_cons (script_line name) xs = omega arith
+commands_cons (load_line r off len) xs = omega arith
+commands_cons (store_line r off bytes) xs = omega arith
+commands_cons (prefetch_line r off len) xs = omega arith
+commands_cons flush_line xs = omega arith
+commands_cons (unmap_line r) xs = omega arith
+
+pub commands-append : (xs ys : List Line) → command_count (xs ++ ys) ≡ command_count xs + command_count ys
+commands-append [] ys = omega arith
+commands-append (x ∷ xs) ys = omega (arith, commands_cons x (xs ++ ys), commands_cons x xs, commands-append xs ys)
+
+pub behind-append : (before xs ys : List Line) → behind before (xs ++ ys) ≡ behind (behind before xs) ys
+behind-append before [] ys = refl
+behind-append before (x ∷ xs) ys = behind-append (x ∷ before) xs ys
+
+-- ---- answers of lines behind others
+
+all_append : (t : Spread) (told : ℕ → Bool) (before : List Line) (regions : List (List ℕ)) (xs ys : List Line) (ones bs : List Reply) → AllAnswer t told before regions xs ones → AllAnswer t told (behind before xs) (left_by regions xs ones) ys bs
+    → AllAnswer t told before regions (xs ++ ys) (ones ++ bs) × (left_by regions (xs ++ ys) (ones ++ bs) ≡ left_by (left_by regions xs ones) ys bs)
+all_append t told before regions [] ys [] bs h k = (k, refl)
+all_append t told before regions [] ys (a ∷ more) bs h k = absurd h
+all_append t told before regions (x ∷ xs) ys [] bs h k = absurd h
+all_append t told before regions (x ∷ xs) ys (a ∷ more) bs h k = let rest = all_append t told (x ∷ before) (left regions x a) xs ys more bs h.1 k in ((h.0, rest.0), rest.1)
+
+-- ---- counts
+
+rising_less : (a b : ℕ) (ns : List ℕ) → a ≤ b → Rising b ns → Rising a ns
+rising_less a b [] le h = tt
+rising_less a b (n ∷ ns) le h = (omega (arith, le, h.0), h.1)
+
+rising_append : (a : ℕ) (ns ms : List ℕ) → Rising a ns → Rising (last_count a ns) ms → Rising a (ns ++ ms)
+rising_append a [] ms h k = k
+rising_append a (n ∷ ns) ms h k = (h.0, rising_append n ns ms h.1 k)
+
+last_append : (a : ℕ) (ns ms : List ℕ) → last_count a (ns ++ ms) ≡ last_count (last_count a ns) ms
+last_append a [] ms = refl
+last_append a (n ∷ ns) ms = last_append n ns ms
+
+last_less : (a b m : ℕ) (ns : List ℕ) → a ≤ b → last_count b ns ≤ m → last_count a ns ≤ m
+last_less a b m [] le h = omega (arith, le, h)
+last_less a b m (n ∷ ns) le h = h
+
+pub counts_more : (a b c : ℕ) (ns ms : List ℕ) → CountsFit a ns b → CountsFit b ms c → CountsFit a (ns ++ ms) c
+counts_more a b c ns ms h k = record {
+  rising = rising_append a ns ms h.rising (rising_less (last_count a ns) b ms h.within k.rising);
+  within = subst (λ n. n ≤ c) (sym (last_append a ns ms)) (last_less (last_count a ns) b c ms h.within k.within);
+}
+
+-- ---- runs
+
+pub any_append : (xs ys : List Reply) → list_any is_fault (xs ++ ys) ≡ (list_any is_fault xs || list_any is_fault ys)
+any_append [] ys = refl
+any_append (x ∷ xs) ys = ap (λ b. is_fault x || b) (any_append xs ys) ∙ or_assoc_ (is_fault x) (list_any is_fault xs) (list_any is_fault ys)
+  where
+    or_assoc_ : (x y z : Bool) → (x || (y || z)) ≡ ((x || y) || z)
+    or_assoc_ true y z = refl
+    or_assoc_ false y z = refl
+
+or_assoc : (x y z : Bool) → ((x || y) || z) ≡ (x || (y || z))
+or_assoc true y z = refl
+or_assoc false y z = refl
+
+module _ (t : Spread) (gs : List Region) where
+  pub ran_none : (before : List Line) (r : Replies) (p : PagerSeen NoJournal) → Ran t gs before [] r r p p
+  ran_none before r p = record {
+    replies = [];
+    text = sym (append-nil r.text.items);
+    spare = omega arith;
+    loaded = omega arith;
+    added = omega arith;
+    within = omega arith;
+    faulted = sym (or-false r.faulted);
+    answered = λ told regions shows. (tt, shows);
+    counts = λ s r. record { rising = tt; within = omega arith };
+    same = record { page_size = refl; shapes = refl; stripes = refl; setups = λ s. refl };
+    stands = λ h. h;
+    pieces = omega arith;
+  }
+    where
+      or-false : (x : Bool) → (x || false) ≡ x
+      or-false true = refl
+      or-false false = refl
+
+  pub ran_more : (before xs ys : List Line) (r0 r1 r2 : Replies) (p q z : PagerSeen NoJournal) → Ran t gs before xs r0 r1 p q → Ran t gs (behind before xs) ys r1 r2 q z → Ran t gs before (xs ++ ys) r0 r2 p z
+  ran_more before xs ys r0 r1 r2 p q z a b =
+      let shown : flat_map bytes_shown (a.replies ++ b.replies) ≡ flat_map bytes_shown a.replies ++ flat_map bytes_shown b.replies = flat_map-append bytes_shown a.replies b.replies in
+      let long : length (flat_map bytes_shown (a.replies ++ b.replies)) ≡ length (flat_map bytes_shown a.replies) + length (flat_map bytes_shown b.replies) = ap length shown ∙ length-append (flat_map bytes_shown a.replies) (flat_map bytes_shown b.replies) in
+      record {
+        replies = a.replies ++ b.replies;
+        text = b.text ∙ ap (λ (x : List ℕ). x ++ replies_text gs b.replies) a.text ∙ append_assoc r0.text.items (replies_text gs a.replies) (replies_text gs b.replies) ∙ ap (λ (x : List ℕ). r0.text.items ++ x) (sym (flat_map-append (reply_text gs) a.replies b.replies));
+        spare = omega (arith, a.spare, b.spare, rooms-append gs xs ys);
+        loaded = omega (arith, a.loaded, b.loaded, long);
+        added = omega (arith, a.added, b.added, ap sum shown ∙ sum_by-append (λ (n : ℕ). n) (flat_map bytes_shown a.replies) (flat_map bytes_shown b.replies));
+        within = omega (arith, a.within, b.within, long, bytes-append xs ys);
+        faulted = b.faulted ∙ ap (λ x. x || list_any is_fault b.replies) a.faulted ∙ or_assoc r0.faulted (list_any is_fault a.replies) (list_any is_fault b.replies) ∙ ap (λ x. r0.faulted || x) (sym (any_append a.replies b.replies));
+        answered = λ told regions shows.
+            let first = a.answered told regions shows in
+            let second = b.answered told (left_by regions xs a.replies) first.1 in
+            let both = all_append t told before regions xs ys a.replies b.replies first.0 second.0 in
+            (both.0, subst (λ rs. Shows t told (behind before (xs ++ ys)) rs z) (sym both.1) (subst (λ ls. Shows t told ls (left_by (left_by regions xs a.replies) ys b.replies) z) (sym (behind-append before xs ys)) second.1));
+        counts = λ s r. subst (λ ns. CountsFit (count_at p s r) ns (count_at z s r)) (sym (flat_map-append (count_in t s r) a.replies b.replies)) (counts_more (count_at p s r) (count_at q s r) (count_at z s r) (counts_named t s r a.replies) (counts_named t s r b.replies) (a.counts s r) (b.counts s r));
+        same = same_more p q z a.same b.same;
+        stands = λ h. b.stands (a.stands h);
+        pieces = omega (arith, a.pieces, b.pieces, commands-append xs ys);
+      }
+
+  -- one line with its reply
+  pub ran_one : (before : List Line) (l : Line) (a : Reply) (len : ℕ) (r0 r1 : Replies) (p q : PagerSeen NoJournal) → r1.text.items ≡ r0.text.items ++ reply_text gs a → r0.text.spare ≤ r1.text.spare + room gs l → r1.loaded ≡ r0.loaded + length (bytes_shown a) → r1.sum ≡ r0.sum + sum (bytes_shown a)
+      → length (bytes_shown a) ≤ loaded_bytes (l ∷ []) → r1.faulted ≡ (r0.faulted || is_fault a)
+      → ((told : ℕ → Bool) (regions : List (List ℕ)) → Shows t told before regions p → MayAnswer t told (l ∷ before) regions l a × Shows t told (l ∷ before) (left regions l a) q)
+      → ((s r : ℕ) → CountsFit (count_at p s r) (count_in t s r a) (count_at q s r)) → GoesOn len p q → len ≤ 65536 * command_count (l ∷ [])
+      → Ran t gs before (l ∷ []) r0 r1 p q
+  ran_one before l a len r0 r1 p q text spare loaded added within faulted answered counts goes few =
+      let shown : flat_map bytes_shown (a ∷ []) ≡ bytes_shown a = append-nil (bytes_shown a) in
+      record {
+        replies = a ∷ [];
+        text = text ∙ ap (λ (x : List ℕ). r0.text.items ++ x) (sym (append-nil (reply_text gs a)));
+        spare = omega (arith, spare);
+        loaded = omega (arith, loaded, ap length shown);
+        added = omega (arith, added, ap sum shown);
+        within = omega (arith, within, ap length shown);
+        faulted = faulted ∙ ap (λ x. r0.faulted || x) (sym (or_none (is_fault a)));
+        answered = λ told regions shows. let h = answered told regions shows in ((h.0, tt), h.1);
+        counts = λ s r. subst (λ ns. CountsFit (count_at p s r) ns (count_at q s r)) (sym (append-nil (count_in t s r a))) (counts s r);
+        same = goes.same;
+        stands = goes.stands;
+        pieces = omega (arith, goes.spent, few);
+      }
+    where
+      or_none : (x : Bool) → (x || false) ≡ x
+      or_none true = refl
+      or_none false = refl

@@ -1,0 +1,214 @@
+-- Ranges on a pager, piece by piece.
+use Rattle.std.proofs.Common.{◌≡◌, ◌⊎◌, inl, inr, ℕ, ◌+◌, ◌*◌, ◌-◌, ◌/◌, ◌%◌, ◌<◌, ◌≤◌, min, true, List, [], ◌++◌, length, take, drop, Option, Some, None, IfSome, slice_get, slice_range, refl, sym, ap, subst, ◌∙◌, arith, rules}
+use Rattle.std.specs.Option.{option_map}
+use Rattle.std.proofs.lemmas.Bool.{cases_lt, cases_eq, lt-ltb}
+use Rattle.std.proofs.lemmas.Nat.{div-add-mod'}
+use Rattle.std.proofs.Math.Nat.{mul-mod_left}
+use Rattle.std.proofs.lemmas.List.{places, same_lists, take-append-drop}
+use Rattle.page_base.specs.ListSeen.{spliced}
+use Rattle.page_base.specs.declared.keys.Key.{Key}
+use Rattle.page_base.specs.declared.keys.RegionShape.{RegionShape}
+use Rattle.page_base.specs.Lanes.{Rose}
+use Rattle.page_base.specs.Pages.{stripe_of}
+use Rattle.page_model.specs.Setups.{pages_of}
+use Rattle.store_trait.specs.Memory.{page_of}
+use Rattle.store_trait.proofs.Rows.{rows_apart}
+use Rattle.serial_pager.specs.declared.fault.PageFault.{PageFault}
+use Rattle.serial_pager.specs.Pagers.{PagerSeen, group_in, page_in, has_page, stripe_at, held, owes, count_at, IsPiece, IsSame, HoldsSame, CountsGrow, NamesFault}
+use Rattle.workload_text.specs.Line.{store_line}
+use Rattle.script_run.specs.FitsSerial.{piece_key, StoresTo}
+use Rattle.script_run.specs.Ranges.{pages_at, key_of, Stands, IsRange, HoldsRegion, GoesOn, FaultsAt}
+use Rattle.script_run.proofs.Pieces.{take_of_page, length-spliced}
+
+pub page_in_of : (o : Option RegionShape) (page : ℕ) → page < pages_of o → page_in o page ≡ true
+page_in_of None page below = absurd (omega (arith, below))
+page_in_of (Some shape) page below = lt-ltb page shape.pages below
+
+pub row_below : (p pages size place : ℕ) → p * size + place < pages * size → p < pages
+row_below p pages size place below = elim (cases_lt p pages) [
+  | inl lt ↦ lt
+  | inr above ↦ absurd (clash (cases_eq p pages) above below)
+]
+  where
+    clash : (p ≡ pages) ⊎ (p ≡ pages → ⊥) → pages ≤ p → p * size + place < pages * size → ⊥
+    clash (inl e) above below = omega (arith, ap (λ q. q * size) e, below)
+    clash (inr other) above below = omega (arith, rows_apart pages p size (omega (arith, above, other)), below)
+
+module _ {J : Type 0} (p q : PagerSeen J) (s : IsSame p q) where
+  pub same_page : (k : Key) → has_page q k ≡ has_page p k
+  same_page k = ap (λ (ss : List RegionShape). page_in (slice_get ss k.region) k.page) s.shapes
+
+  pub same_stripe : (k : Key) → stripe_at q k ≡ stripe_at p k
+  same_stripe k =
+      ap (λ n. stripe_of n (group_in (slice_get q.shapes k.region)) k.region k.page) s.stripes
+      ∙ ap (λ (ss : List RegionShape). stripe_of (length p.stripes) (group_in (slice_get ss k.region)) k.region k.page) s.shapes
+
+  pub same_pages : (r : ℕ) → pages_at q r ≡ pages_at p r
+  same_pages r = ap (λ (ss : List RegionShape). pages_of (slice_get ss r)) s.shapes
+
+pub same_none : {J : Type 0} (p : PagerSeen J) → IsSame p p
+same_none p = record { page_size = refl; shapes = refl; stripes = refl; setups = λ s. refl }
+
+pub same_more : {J : Type 0} (p q z : PagerSeen J) → IsSame p q → IsSame q z → IsSame p z
+same_more p q z a b = record { page_size = b.page_size ∙ a.page_size; shapes = b.shapes ∙ a.shapes; stripes = b.stripes ∙ a.stripes; setups = λ s. b.setups s ∙ a.setups s }
+
+pub goes_none : {J : Type 0} (p : PagerSeen J) → GoesOn 0 p p
+goes_none p = record { same = same_none p; spent = omega arith; counts = λ s r. omega arith; stands = λ h. h }
+
+pub goes_more : {J : Type 0} (m n : ℕ) (p q z : PagerSeen J) → GoesOn m p q → GoesOn n q z → GoesOn (m + n) p z
+goes_more m n p q z a b = record {
+  same = same_more p q z a.same b.same;
+  spent = omega (arith, a.spent, b.spent);
+  counts = λ s r. omega (arith, a.counts s r, b.counts s r);
+  stands = λ h. b.stands (a.stands h);
+}
+
+pub goes_within : {J : Type 0} (m n : ℕ) (p q : PagerSeen J) → GoesOn m p q → m ≤ n → GoesOn n p q
+goes_within m n p q a le = record { same = a.same; spent = omega (arith, a.spent, le); counts = a.counts; stands = a.stands }
+
+pub one_piece : {J : Type 0} (n : ℕ) (p q : PagerSeen J) → IsSame p q → q.spent ≡ p.spent + 1 → CountsGrow p q → (Stands p → Stands q) → 1 ≤ n → GoesOn n p q
+one_piece n p q s spent counts stands some = record { same = s; spent = omega (arith, spent, some); counts = counts; stands = stands }
+
+pub held_more : {J : Type 0} (p q z : PagerSeen J) → IsSame p q → HoldsSame p q → HoldsSame q z → HoldsSame p z
+held_more p q z s a b k page = b k (same_page p q s k ∙ page) ∙ a k page
+
+-- ---- where a piece lies
+
+-- the next piece of a range: it begins at byte `at`, and has n bytes
+module _ (size off len done n : ℕ) (some : 0 < size) (short : done < len) (is : n ≡ min (size - (off + done) % size) (len - done)) where
+  at_is : (off + done) / size * size + (off + done) % size ≡ off + done
+  at_is = div-add-mod' (off + done) size
+
+  pub mod_below : (off + done) % size < size
+  mod_below = omega arith
+
+  pub piece_some : 1 ≤ n
+  piece_some = omega (arith, is, short, mod_below)
+
+  pub piece_short : done + n ≤ len
+  piece_short = omega (arith, is, short)
+
+  pub piece_within : (off + done) % size + n ≤ size
+  piece_within = omega (arith, is, mod_below)
+
+  pub next_border : (done + n ≡ 0) ⊎ (((off + (done + n)) % size ≡ 0) ⊎ (done + n ≡ len))
+  next_border = elim (cases_lt (len - done) (size - (off + done) % size)) [
+    | inl last ↦ inr (inr (omega (arith, is, last, short)))
+    | inr full ↦ inr (inl (border (omega (arith, is, full))))
+  ]
+    where
+      border : n ≡ size - (off + done) % size → (off + (done + n)) % size ≡ 0
+      border e =
+          let sum : off + (done + n) ≡ ((off + done) / size + 1) * size = omega (arith, e, mod_below, at_is) in
+          ap (λ m. m % size) sum ∙ mul-mod_left ((off + done) / size + 1) size
+
+  module _ {J : Type 0} (p q : PagerSeen J) (region : ℕ) (range : IsRange p region off len) (s : IsSame p q) (sized : p.page_size ≡ size) where
+    pub page_below : (off + done) / size < pages_at p region
+    page_below = row_below ((off + done) / size) (pages_at p region) size ((off + done) % size) (omega (arith, at_is, short, range.inside, ap (λ z. pages_at p region * z) sized))
+
+    pub has_piece : has_page p (key_of region ((off + done) / size)) ≡ true
+    has_piece = page_in_of (slice_get p.shapes region) ((off + done) / size) page_below
+
+    pub is_piece : IsPiece q (key_of region ((off + done) / size)) ((off + done) % size) n
+    is_piece = record {
+      page = same_page p q s (key_of region ((off + done) / size)) ∙ has_piece;
+      some = piece_some;
+      within = subst (λ z. (off + done) % size + n ≤ z) (sym (s.page_size ∙ sized)) piece_within;
+    }
+
+-- ---- faults
+
+rose_from : (a b n : ℕ) → a ≤ b → Rose b n → Rose a n
+rose_from a b n le rose = omega (arith, le, rose)
+
+pub faults_at : {J : Type 0} (p q z : PagerSeen J) (region off len done size : ℕ) (stores : Key → Type 0) (f : PageFault) → GoesOn done p q → ((k : Key) → owes q k ≡ true → (owes p k ≡ true) ⊎ stores k) → p.page_size ≡ size → done < len
+    → (done ≡ 0) ⊎ (((off + done) % p.page_size ≡ 0) ⊎ (done ≡ len)) → NamesFault (key_of region ((off + done) / size)) q z f → FaultsAt p z region off len stores done f
+faults_at p q z region off len done size stores f goes owed sized short border names =
+    let key : Key = piece_key p.page_size region (off + done) in
+    let its : key_of region ((off + done) / size) ≡ key = ap (λ n. key_of region ((off + done) / n)) (sym sized) in
+    let to : stripe_at q (key_of region ((off + done) / size)) ≡ stripe_at p f.key = sym names.stripe ∙ same_stripe p q goes.same f.key in
+    record {
+      ends = record { short = short; border = elim border [ inl e ↦ inl e | inr more ↦ elim more [ inl e ↦ inr e | inr e ↦ absurd (omega (arith, e, short)) ] ] };
+      page = sym (same_page p q goes.same f.key) ∙ names.page;
+      stripe = sym to ∙ ap (stripe_at q) its ∙ same_stripe p q goes.same key;
+      whose = elim names.whose [ inl e ↦ inl (e ∙ its) | inr e ↦ inr (owed f.key e) ];
+      rose = rose_from (count_at p (stripe_at p f.key) f.key.region) (count_at q (stripe_at p f.key) f.key.region) f.faults (goes.counts (stripe_at p f.key) f.key.region) (subst (λ s. Rose (count_at q s f.key.region) f.faults) to names.rose);
+      within = subst (λ s. f.faults ≤ count_at z s f.key.region) to (omega (arith, names.count));
+    }
+
+-- ---- bytes
+
+slice_is : (xs : List ℕ) (place n : ℕ) → slice_range xs place (place + n) ≡ take n (drop place xs)
+slice_is xs place n = ap (λ m. take m (drop place xs)) (omega arith)
+
+pub piece_is : (size p place n : ℕ) (bytes piece : List ℕ) (o : Option (List ℕ)) → o ≡ Some (page_of size bytes p) → IfSome o (λ page. piece ≡ slice_range page place (place + length piece)) → length piece ≡ n → place + n ≤ size → p * size + (place + n) ≤ length bytes → piece ≡ take n (drop (p * size + place) bytes)
+piece_is size p place n bytes piece o e h len within inside =
+    let given : piece ≡ slice_range (page_of size bytes p) place (place + length piece) = subst (λ o. IfSome o (λ page. piece ≡ slice_range page place (place + length piece))) e h in
+    given ∙ ap (λ m. slice_range (page_of size bytes p) place (place + m)) len ∙ slice_is (page_of size bytes p) place n ∙ take_of_page size p place n bytes within inside
+
+page_here : (size p place : ℕ) (xs new : List ℕ) → place + length new ≤ size → p * size + size ≤ length xs → page_of size (spliced xs (p * size + place) new) p ≡ spliced (page_of size xs p) place new
+page_here size p place xs new fits inside = same_lists _ _ (search (rules, places)) (λ k d h. grind (arith, places))
+
+page_apart : (size q at : ℕ) (xs new : List ℕ) → q * size + size ≤ at → at + length new ≤ length xs → page_of size (spliced xs at new) q ≡ page_of size xs q
+page_apart size q at xs new before fits = same_lists _ _ (search (rules, places)) (λ k d h. grind (arith, places))
+
+page_behind : (size q at : ℕ) (xs new : List ℕ) → at + length new ≤ q * size → at + length new ≤ length xs → page_of size (spliced xs at new) q ≡ page_of size xs q
+page_behind size q at xs new before fits = same_lists _ _ (search (rules, places)) (λ k d h. grind (arith, places))
+
+-- one piece stored
+pub region_stored : {J : Type 0} (p q : PagerSeen J) (region page place size : ℕ) (b new : List ℕ) → IsSame p q → p.page_size ≡ size → page < pages_at p region → place + length new ≤ size
+    → held q (key_of region page) ≡ option_map (λ bytes. spliced bytes place new) (held p (key_of region page))
+    → ((k : Key) → has_page p k ≡ true → (k ≡ key_of region page → ⊥) → held q k ≡ held p k)
+    → HoldsRegion p region b → HoldsRegion q region (spliced b (page * size + place) new)
+region_stored p q region page place size b new s sized below fits here others h =
+    let row = rows_apart page (pages_at p region) size below in
+    let len : length b ≡ pages_at p region * size = h.whole ∙ ap (λ z. pages_at p region * z) sized in
+    record {
+      whole = length-spliced b new (page * size + place) (omega (arith, fits, row, len)) ∙ h.whole ∙ sym (ap (λ n. n * q.page_size) (same_pages p q s region) ∙ ap (λ z. pages_at p region * z) s.page_size);
+      each = λ n lt. let lt' : n < pages_at p region = subst (λ m. n < m) (same_pages p q s region) lt in subst (λ z. held q (key_of region n) ≡ Some (page_of z (spliced b (page * size + place) new) n)) (sym (s.page_size ∙ sized)) (go n lt' (cases_eq n page));
+    }
+  where
+    old_page : (n : ℕ) → n < pages_at p region → held p (key_of region n) ≡ Some (page_of size b n)
+    old_page n lt = subst (λ z. held p (key_of region n) ≡ Some (page_of z b n)) sized (h.each n lt)
+
+    go : (n : ℕ) → n < pages_at p region → (n ≡ page) ⊎ (n ≡ page → ⊥) → held q (key_of region n) ≡ Some (page_of size (spliced b (page * size + place) new) n)
+    go n lt (inl e) =
+        subst (λ m. held q (key_of region m) ≡ Some (page_of size (spliced b (page * size + place) new) m)) (sym e)
+        (here ∙ ap (option_map (λ bytes. spliced bytes place new)) (old_page page below) ∙ ap (λ x. Some x) (sym (page_here size page place b new fits (omega (arith, rows_apart page (pages_at p region) size below, h.whole ∙ ap (λ z. pages_at p region * z) sized)))))
+    go n lt (inr other) =
+        others (key_of region n) (page_in_of (slice_get p.shapes region) n lt) (λ e. other (ap (λ (k : Key). k.page) e))
+        ∙ old_page n lt
+        ∙ ap (λ x. Some x) (sym (apart (cases_lt n page)))
+      where
+        room : page * size + place + length new ≤ length b
+        room = omega (arith, fits, rows_apart page (pages_at p region) size below, h.whole ∙ ap (λ z. pages_at p region * z) sized)
+
+        apart : (n < page) ⊎ (page ≤ n) → page_of size (spliced b (page * size + place) new) n ≡ page_of size b n
+        apart (inl before) = page_apart size n (page * size + place) b new (omega (arith, rows_apart n page size before)) room
+        apart (inr above) = page_behind size n (page * size + place) b new (omega (arith, fits, rows_apart page n size (omega (arith, above, other)))) room
+
+pub region_kept_in : {J : Type 0} (p q : PagerSeen J) (region : ℕ) (b : List ℕ) → IsSame p q → ((k : Key) → has_page p k ≡ true → k.region ≡ region → held q k ≡ held p k) → HoldsRegion p region b → HoldsRegion q region b
+region_kept_in p q region b s same h = record {
+  whole = h.whole ∙ sym (ap (λ n. n * q.page_size) (same_pages p q s region) ∙ ap (λ z. pages_at p region * z) s.page_size);
+  each = λ n lt.
+      let lt' : n < pages_at p region = subst (λ m. n < m) (same_pages p q s region) lt in
+      same (key_of region n) (page_in_of (slice_get p.shapes region) n lt') refl ∙ h.each n lt' ∙ ap (λ z. Some (page_of z b n)) (sym s.page_size);
+}
+
+pub region_kept : {J : Type 0} (p q : PagerSeen J) (region : ℕ) (b : List ℕ) → IsSame p q → HoldsSame p q → HoldsRegion p region b → HoldsRegion q region b
+region_kept p q region b s same h = record {
+  whole = h.whole ∙ sym (ap (λ n. n * q.page_size) (same_pages p q s region) ∙ ap (λ z. pages_at p region * z) s.page_size);
+  each = λ n lt.
+      let lt' : n < pages_at p region = subst (λ m. n < m) (same_pages p q s region) lt in
+      same (key_of region n) (page_in_of (slice_get p.shapes region) n lt') ∙ h.each n lt' ∙ ap (λ z. Some (page_of z b n)) (sym s.page_size);
+}
+
+pub spliced_none : (b : List ℕ) (off : ℕ) → spliced b off [] ≡ b
+spliced_none b off = ap (λ n. take off b ++ drop n b) (omega arith) ∙ take-append-drop off b
+
+-- the page of a piece is one that the line stores to
+pub stores_to : (z size off done page place region : ℕ) (bytes : List ℕ) (k : Key) → z ≡ size → k ≡ key_of region page → page * size + place ≡ off + done → place < size → done < length bytes → StoresTo z k (store_line region off bytes)
+stores_to z size off done page place region bytes k sized is at below short =
+    let P : Key → Type 0 = λ j. (j.region ≡ region) × (off < j.page * z + z) × (j.page * z < off + length bytes) in
+    let row : page * z ≡ page * size = ap (λ n. page * n) sized in
+    subst P (sym is) (refl, omega (arith, row, sized, at, below), omega (arith, row, at, short))

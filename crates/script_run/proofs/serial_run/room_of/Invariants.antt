@@ -1,8 +1,0 @@
-use Rattle.std.proofs.Common.{◌≡◌, ◌+◌, drop}
-use Rattle.std.specs.List.{flat_map}
-use Rattle.script_run.specs.Rooms.{rooms}
-use Rattle.workload_text.specs.View.{script_lines, lines_of}
-use Rattle.script_run.proofs.serial_run.room_of.Given as goal
-
-abbrev pub invariant-loop-i : goal.invariant-loop-i
-invariant-loop-i l = l.room + rooms (flat_map script_lines (drop l.i l.scripts)) ≡ rooms (lines_of l.fn.workload)

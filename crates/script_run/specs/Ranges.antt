@@ -1,0 +1,51 @@
+-- Ranges of a region's bytes on a pager: what a load or a store of one asks for, and how it fails.
+use Rattle.std.specs.Prelude.{◌≡◌, ℕ, ◌+◌, ◌*◌, ◌^◌, ◌<◌, ◌≤◌, ◌⊎◌, true, List, length, slice_get, Some}
+use Rattle.page_base.specs.declared.keys.Key.{Key}
+use Rattle.page_base.specs.Lanes.{Rose}
+use Rattle.histories.specs.Histories.{History}
+use Rattle.page_model.specs.declared.entry.Entry.{Entry}
+use Rattle.page_model.specs.Core.{Core}
+use Rattle.page_model.specs.Setups.{pages_of}
+use Rattle.page_model.specs.Stands.{StandsFor}
+use Rattle.store_trait.specs.Memory.{page_of}
+use Rattle.serial_pager.specs.declared.fault.PageFault.{PageFault}
+use Rattle.serial_pager.specs.Pagers.{PagerSeen, core_at, has_page, stripe_at, held, owes, count_at, IsSame, CountsGrow}
+use Rattle.script_run.specs.FitsSerial.{EndsAt, piece_key}
+
+abbrev pub key_of : (region page : ℕ) → Key
+key_of region page = record { region = region; page = page }
+
+module _ {J : Type 0} where
+  abbrev pub pages_at : PagerSeen J → (region : ℕ) → ℕ
+  pages_at p r = pages_of (slice_get p.shapes r)
+
+  -- the range lies in the region, and the pager has pieces left for it
+  pub record IsRange (p : PagerSeen J) (region off len : ℕ) : Type 0 where
+    pub inside : off + len ≤ pages_at p region * p.page_size
+    pub near : off + len ≤ 2 ^ 32
+    pub few : p.spent + len ≤ 2 ^ 44
+
+  -- the region's pages hold these bytes, one page after another
+  pub record HoldsRegion (p : PagerSeen J) (region : ℕ) (bytes : List ℕ) : Type 0 where
+    pub whole : length bytes ≡ pages_at p region * p.page_size
+    pub each : (page : ℕ) → page < pages_at p region → held p (key_of region page) ≡ Some (page_of p.page_size bytes page)
+
+  -- each stripe stands for some history
+  abbrev pub Stands : PagerSeen J → Type 0
+  Stands p = (s : ℕ) (c : Core) → core_at p s ≡ Some c → (h : History Entry) × StandsFor h c
+
+  -- what no access changes, and no more pieces than bytes
+  pub record GoesOn (len : ℕ) (old new : PagerSeen J) : Type 0 where
+    pub same : IsSame old new
+    pub spent : new.spent ≤ old.spent + len
+    pub counts : CountsGrow old new
+    pub stands : Stands old → Stands new
+
+  -- the access ended at a piece with this fault; a page that the fault names may have had to be written, or was stored to
+  pub record FaultsAt (old new : PagerSeen J) (region off len : ℕ) (stores : Key → Type 0) (done : ℕ) (f : PageFault) : Type 0 where
+    pub ends : EndsAt old.page_size off len done
+    pub page : has_page old f.key ≡ true
+    pub stripe : stripe_at old f.key ≡ stripe_at old (piece_key old.page_size region (off + done))
+    pub whose : (f.key ≡ piece_key old.page_size region (off + done)) ⊎ ((owes old f.key ≡ true) ⊎ stores f.key)
+    pub rose : Rose (count_at old (stripe_at old f.key) f.key.region) f.faults
+    pub within : f.faults ≤ count_at new (stripe_at old f.key) f.key.region
