@@ -3,7 +3,8 @@ ghost use Rattle.std.specs.Prelude.{◌≡◌};
 
 use page_base::Layout;
 
-/// The layout of the page buffer, and what workers and watermarks are set to. `serial` uses the layout alone.
+/// The layout of the page buffer, and what workers and watermarks are set to. `serial` uses the layout, the watermarks and
+/// the bound on waiting faults.
 #[derive(Clone, Copy, Debug, PartialEq, Eq)]
 pub struct Settings {
     pub layout: Layout,

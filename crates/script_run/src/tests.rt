@@ -1,12 +1,100 @@
-//! Workloads with their texts, over several layouts.
+//! Workloads with their texts, over several layouts and settings, and over lanes that fail.
+ghost use Rattle.std.specs.Prelude.{◌≡◌};
+ghost use Rattle.serial_pager.specs.Pagers.{rows_of};
+ghost use Rattle.script_run.specs.Contents.{origins_of};
+ghost use Rattle.script_run.specs.Fits.{AreInRange};
+
 use crate::{SerialEnd, Settings, memory_lanes, pages_are_few, pages_are_whole, serial};
-use page_base::Layout;
+use page_base::{Layout, List};
 use std::process::Abort;
-use store_trait::MemLane;
+use store_trait::{FailLane, LaneSet, MemLane, Store};
 use workload_text::{is_built, parse};
 
 /// Runs a text that is accepted.
+fn answer_in(rt: &(impl Abort + AllocGlobal), settings: &Settings, text: &str) -> SerialEnd<MemLane>
+    requires { AreInRange settings.now }
+{
+    let Ok(parsed) = parse(rt.alloc(), text.as_bytes()) else {
+        panic!(rt; "refused: {text}");
+    };
+    if !is_built(&parsed.workload) {
+        panic!(rt; "not built: {text}");
+    }
+    if !pages_are_whole(&parsed.workload, settings.layout.page_size()) {
+        panic!(rt; "no whole pages: {text}");
+    }
+    if !pages_are_few(&parsed.workload, settings.layout.page_size()) {
+        panic!(rt; "too many pages: {text}");
+    }
+    let Ok(lanes) = memory_lanes(rt.alloc(), settings, &parsed.workload) else {
+        panic!(rt; "no memory");
+    };
+    match serial(rt.alloc(), settings, &parsed.workload, lanes) {
+        Ok(end) => end,
+        Err(_) => panic!(rt; "no memory"),
+    }
+}
+
 fn answer(rt: &(impl Abort + AllocGlobal), layout: Layout, text: &str) -> SerialEnd<MemLane> {
+    let settings = Settings {
+        layout,
+        ..Settings::defaults()
+    };
+    answer_in(rt, &settings, text)
+}
+
+/// The only lane of the only stripe, of which reads and writes of these numbers fail.
+fn failing(
+    rt: &(impl Abort + AllocGlobal),
+    lanes: LaneSet<MemLane>,
+    reads: &[u64],
+    writes: &[u64],
+) -> LaneSet<FailLane<MemLane>>
+    ensures { origins_of (rows_of ⟦<FailLane<MemLane> as Store>⟧.seen result) ≡ origins_of (rows_of ⟦<MemLane as Store>⟧.seen lanes) }
+{
+    let LaneSet { stripes } = lanes;
+    let mut stripes = stripes.into_vec();
+    let Some(row) = stripes.pop() else {
+        panic!(rt; "no stripe");
+    };
+    if stripes.len() != 0 {
+        panic!(rt; "another stripe");
+    }
+    let mut row = row.into_vec();
+    let Some(lane) = row.pop() else {
+        panic!(rt; "no lane");
+    };
+    if row.len() != 0 {
+        panic!(rt; "another lane");
+    }
+    let Ok(reads) = Vec::from_slice(rt.alloc(), reads) else {
+        panic!(rt; "no memory");
+    };
+    let Ok(writes) = Vec::from_slice(rt.alloc(), writes) else {
+        panic!(rt; "no memory");
+    };
+    let lane = FailLane::new(lane, List::from_vec(reads), List::from_vec(writes));
+    let mut wrapped = Vec::new(rt.alloc());
+    if wrapped.push(lane).is_err() {
+        panic!(rt; "no memory");
+    }
+    let mut rows = Vec::new(rt.alloc());
+    if rows.push(List::from_vec(wrapped)).is_err() {
+        panic!(rt; "no memory");
+    }
+    LaneSet {
+        stripes: List::from_vec(rows),
+    }
+}
+
+/// Runs a text of one region in one stripe, over a lane of which reads and writes of these numbers fail.
+fn answer_failing(
+    rt: &(impl Abort + AllocGlobal),
+    layout: Layout,
+    text: &str,
+    reads: &[u64],
+    writes: &[u64],
+) -> SerialEnd<FailLane<MemLane>> {
     let settings = Settings {
         layout,
         ..Settings::defaults()
@@ -26,9 +114,35 @@ fn answer(rt: &(impl Abort + AllocGlobal), layout: Layout, text: &str) -> Serial
     let Ok(lanes) = memory_lanes(rt.alloc(), &settings, &parsed.workload) else {
         panic!(rt; "no memory");
     };
+    let lanes = failing(rt, lanes, reads, writes);
     match serial(rt.alloc(), &settings, &parsed.workload, lanes) {
         Ok(end) => end,
         Err(_) => panic!(rt; "no memory"),
+    }
+}
+
+/// The settings of these numbers.
+fn settings_of(rt: &impl Abort, layout: Layout, high: u32, low: u32, faults: u32) -> Settings
+    ensures { AreInRange result }
+{
+    if faults < 1 {
+        panic!(rt; "no fault may wait");
+    }
+    if faults > 4096 {
+        panic!(rt; "{faults} faults");
+    }
+    if low >= high {
+        panic!(rt; "marks {low} and {high}");
+    }
+    if high > 100 {
+        panic!(rt; "mark {high}");
+    }
+    Settings {
+        layout,
+        high,
+        low,
+        faults,
+        ..Settings::defaults()
     }
 }
 
@@ -107,5 +221,79 @@ fn loaded_bytes_are_counted_and_added_up(rt: HostRuntime) {
             b"script s\nok\nload 02fe04\nload 0000\n".as_slice()
         );
         assert_eq!(rt; (end.loaded, end.sum), (5, 260));
+    }
+}
+
+#[test]
+fn a_failed_read_is_told_and_the_next_line_runs(rt: HostRuntime) {
+    let Ok(layout) = Layout::new(64, 1, 1) else {
+        panic!(rt; "the layout is refused");
+    };
+    let text = "map A memory 64 rw\nscript s\nload A 0 1\nload A 0 1\n";
+    let end = answer_failing(&rt, layout, text, &[1], &[]);
+    assert_eq!(rt;
+        end.text.as_slice(),
+        b"script s\nfault A 0 1\nload 00\n".as_slice()
+    );
+    assert_eq!(rt; end.faulted, true);
+}
+
+#[test]
+fn pages_that_cannot_be_written_stay(rt: HostRuntime) {
+    let Ok(layout) = Layout::new(64, 1, 2) else {
+        panic!(rt; "the layout is refused");
+    };
+    let text =
+        "map A memory 192 rw\nscript s\nstore A 0 01\nstore A 64 02\nstore A 128 03\nload A 0 1\nload A 64 1\n";
+    let writes = [
+        1, 2, 3, 4, 5, 6, 7, 8, 9, 10, 11, 12, 13, 14, 15, 16, 17, 18, 19, 20,
+    ];
+    let end = answer_failing(&rt, layout, text, &[], &writes);
+    assert_eq!(rt;
+        end.text.as_slice(),
+        b"script s\nok\nok\nfault A 0 1\nload 01\nload 02\n".as_slice()
+    );
+    assert_eq!(rt; end.faulted, true);
+}
+
+#[test]
+fn the_text_is_the_same_under_all_settings(rt: HostRuntime) {
+    let text =
+        "map A memory 8192 rw\nmap B memory 4096 rw\nscript s\nstore A 4094 01020304\nstore B 62 aabbcc\nload A 4093 6\nstore A 255 0506\nload B 60 6\nstore B 4095 ff\nload A 254 4\nload B 4092 4\nload A 4094 4\n";
+    let wanted =
+        b"script s\nok\nok\nload 000102030400\nok\nload 0000aabbcc00\nok\nload 00050600\nload 000000ff\nload 01020304\n";
+    let rows = [
+        (64, 1, 1, 90, 70, 64),
+        (64, 1, 1, 100, 0, 1),
+        (64, 1, 2, 90, 70, 1),
+        (64, 1, 3, 50, 25, 2),
+        (64, 2, 2, 90, 70, 1),
+        (64, 2, 3, 1, 0, 1),
+        (64, 4, 5, 100, 99, 3),
+        (64, 64, 64, 90, 70, 4096),
+        (64, 64, 200, 60, 30, 1),
+        (128, 1, 1, 90, 70, 1),
+        (128, 3, 7, 75, 50, 8),
+        (256, 1, 4, 50, 0, 1),
+        (256, 5, 5, 90, 70, 64),
+        (512, 2, 4, 100, 50, 1),
+        (1024, 1, 1, 1, 0, 1),
+        (1024, 3, 3, 90, 70, 2),
+        (2048, 1, 2, 51, 49, 1),
+        (2048, 4, 1024, 90, 70, 64),
+        (4096, 1, 1, 100, 0, 1),
+        (4096, 2, 2, 90, 70, 4096),
+    ];
+    for (page_size, stripes, frames, high, low, faults) in rows {
+        let Ok(layout) = Layout::new(page_size, stripes, frames) else {
+            panic!(rt; "{page_size}, {stripes}, {frames}");
+        };
+        let settings = settings_of(&rt, layout, high, low, faults);
+        let end = answer_in(&rt, &settings, text);
+        assert_eq!(rt;
+            end.text.as_slice(),
+            wanted.as_slice(),
+            "{page_size}, {stripes}, {frames}, {high}, {low}, {faults}"
+        );
     }
 }
