@@ -2,12 +2,10 @@
 use Rattle.std.proofs.Common.{◌≡◌, ◌⊎◌, inl, inr, ℕ, ◌+◌, ◌^◌, ◌<◌, ◌≤◌, true, false, List, length, Option, Some, None, IfSome, slice_get, refl, sym, ap, subst, ◌∙◌, arith}
 use Rattle.std.specs.Option.{option_map}
 use Rattle.std.proofs.lemmas.Option.{slice_get_within}
-use Rattle.histories.specs.Histories.{History}
 use Rattle.page_base.specs.declared.keys.Key.{Key}
 use Rattle.page_base.specs.declared.keys.RegionShape.{RegionShape}
 use Rattle.page_base.specs.Lanes.{Rose}
 use Rattle.page_base.specs.Pages.{stripe_of}
-use Rattle.page_model.specs.declared.entry.Entry.{Entry}
 use Rattle.page_model.specs.Core.{Core}
 use Rattle.page_model.specs.Setups as setup
 use Rattle.page_model.specs.Setups.{Setup, regions}
@@ -20,8 +18,8 @@ use Rattle.serial_pager.proofs.Kept.{kept_where_told}
 use Rattle.serial_pager.proofs.Stripes.{stripe_of_pages}
 use Rattle.serial_pager.proofs.Unmade.{past}
 
-module _ {J : Type 0} (has_noted : J → History Entry → Type 0) (old new : PagerSeen J) (sound : IsSound old) (many : length new.stripes ≡ length old.stripes) (shapes : new.shapes ≡ old.shapes) (size : new.page_size ≡ old.page_size)
-    (flushed : (s : ℕ) (x y : StripeSeen J) → slice_get old.stripes s ≡ Some x → slice_get new.stripes s ≡ Some y → Flushes has_noted x y) where
+module _ {J : Type 0} (old new : PagerSeen J) (sound : IsSound old) (many : length new.stripes ≡ length old.stripes) (shapes : new.shapes ≡ old.shapes) (size : new.page_size ≡ old.page_size)
+    (flushed : (s : ℕ) (x y : StripeSeen J) → slice_get old.stripes s ≡ Some x → slice_get new.stripes s ≡ Some y → Flushes x y) where
   record Pair (s : ℕ) : Type 0 where
     pub x : StripeSeen J
     pub y : StripeSeen J
@@ -55,7 +53,7 @@ module _ {J : Type 0} (has_noted : J → History Entry → Type 0) (old new : Pa
     shapes = shapes;
     stripes = many;
     setups = λ s. elim (pair s) [
-      | inl p ↦ ap (λ o. option_map (λ (c : Core). c.setup) (core_in o)) p.is ∙ ap (λ (u : Setup). Some u) (flushed s p.x p.y p.was p.is).entries.went.setup ∙ sym (ap (λ o. option_map (λ (c : Core). c.setup) (core_in o)) p.was)
+      | inl p ↦ ap (λ o. option_map (λ (c : Core). c.setup) (core_in o)) p.is ∙ ap (λ (u : Setup). Some u) (flushed s p.x p.y p.was p.is).fixed ∙ sym (ap (λ o. option_map (λ (c : Core). c.setup) (core_in o)) p.was)
       | inr n ↦ ap (λ o. option_map (λ (c : Core). c.setup) (core_in o)) n.is ∙ sym (ap (λ o. option_map (λ (c : Core). c.setup) (core_in o)) n.was)
     ];
   }
@@ -68,7 +66,7 @@ module _ {J : Type 0} (has_noted : J → History Entry → Type 0) (old new : Pa
       | inl p ↦
           let f = flushed s p.x y p.was e in
           let part = sound.each s p.x p.was in
-          let u = f.entries.went.setup in
+          let u = f.fixed in
           record {
             rest = f.rest;
             page_size = ap (λ (v : Setup). v.page_size) u ∙ part.page_size ∙ sym size;
@@ -123,7 +121,7 @@ module _ {J : Type 0} (has_noted : J → History Entry → Type 0) (old new : Pa
   kept_after s r p stored k region page at =
       let here : core_at new (stripe_at new k) ≡ Some p.y.core = ap (core_at new) at ∙ ap core_in p.is in
       let part = sound.each s p.x p.was in
-      let u = (flushed s p.x p.y p.was p.is).entries.went.setup in
+      let u = (flushed s p.x p.y p.was p.is).fixed in
       let mine : setup.has_page p.x.core.setup k ≡ true = stripe_of_pages old s p.x.core part k (sym (same_page k) ∙ page) (sym (same_stripe k) ∙ at) in
       let its : setup.has_page p.y.core.setup k ≡ true = ap (λ v. setup.has_page v k) u ∙ mine in
       subst (λ o. IfSome (held_in o k) (λ bytes. kept_in o k ≡ Some bytes)) (sym here) (kept_where_told p.y.core k (stored.told k region its))
@@ -151,7 +149,7 @@ module _ {J : Type 0} (has_noted : J → History Entry → Type 0) (old new : Pa
   pub stored_after : ((s : ℕ) (y : StripeSeen J) → slice_get new.stripes s ≡ Some y → (r : ℕ) → r < regions y.core.setup → one.IsStored y.core r) → (s r : ℕ) → s < length old.stripes → r < length old.shapes → IsKept new s r
   stored_after stored s r below region = elim (pair s) [
     | inl p ↦
-        let lt : r < regions p.y.core.setup = subst (λ u. r < regions u) (sym (flushed s p.x p.y p.was p.is).entries.went.setup) (subst (λ (ss : List RegionShape). r < length ss) (sym (sound.each s p.x p.was).shapes) region) in
+        let lt : r < regions p.y.core.setup = subst (λ u. r < regions u) (sym (flushed s p.x p.y p.was p.is).fixed) (subst (λ (ss : List RegionShape). r < length ss) (sym (sound.each s p.x p.was).shapes) region) in
         kept_after s r p (stored s p.y p.is r lt)
     | inr n ↦ absurd (omega (arith, past old.stripes s n.was, below))
   ]

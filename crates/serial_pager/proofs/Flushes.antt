@@ -1,5 +1,9 @@
 -- Writing the dirty pages, one after another.
-use Rattle.std.proofs.Common.{Bool, Err, IfErr, Ok, OnOk, Result, ap, arith, false, inl, inr, is_err, refl, subst, sym, true, ℕ, ◌*◌, ◌+◌, ◌∙◌, ◌≡◌, ◌<◌, ◌≤◌, ◌⊎◌, ◌||◌, ◌==◌, ◌≢◌, List, Some, nat_lt, slice_get, get_or, suc, zero, [], ◌∷◌, sum_by, take}
+use Rattle.std.proofs.Common.{Bool, Err, IfErr, Ok, OnOk, Result, ap, arith, false, inl, inr, is_err, refl, subst, sym, true, ℕ, ◌*◌, ◌+◌, ◌∙◌, ◌≡◌, ◌<◌, ◌≤◌, ◌⊎◌, ◌||◌, ◌==◌, ◌≢◌, List, Some, nat_lt, slice_get, get_or, suc, zero, [], ◌∷◌, ◌++◌, sum_by, take}
+use Rattle.std.proofs.Math.Bool.{or_comm}
+use Rattle.std.proofs.lemmas.List.Folds.{list_any-append}
+use Rattle.std.specs.List.{list_any}
+use Rattle.page_model.specs.declared.entry.Cause.TheVariants.{Flush}
 use Rattle.std.proofs.lemmas.List.Sums.{sum_by_more, sum_by-take-le}
 use Rattle.std.proofs.lemmas.Option.{slice_get_within}
 use Rattle.page_base.specs.declared.keys.RegionShape.{RegionShape}
@@ -7,9 +11,9 @@ use Rattle.page_base.specs.Pages.{stripe_of}
 use Rattle.histories.specs.Histories.{History}
 use Rattle.page_model.specs.declared.entry.Entry.{Entry}
 use Rattle.page_model.specs.Setups.{Setup, has_page, is_page_of}
-use Rattle.serial_pager.specs.Goings.{WentBy}
+use Rattle.serial_pager.specs.Goings.{Went}
 use Rattle.serial_pager.specs.Seen.{StripeSeen}
-use Rattle.serial_pager.proofs.Goes.{by_none, by_twice}
+use Rattle.serial_pager.proofs.Goes.{all_both, went_nowhere, went_twice}
 use Rattle.serial_pager.proofs.Loops.{counts_twice, holds_same, list_weaker, rose_earlier}
 use Rattle.serial_pager.proofs.Holds.{stores_nothing, told_held}
 use Rattle.page_model.proofs.Prefixes.{page_region}
@@ -22,7 +26,7 @@ use Rattle.serial_pager.specs.declared.fault.PageFault.{PageFault}
 use Rattle.serial_pager.specs.Holdings.{CountsGrow, HoldsSame, IsClean, IsStored, count_at}
 use Rattle.serial_pager.specs.Rests.{IsAtRest}
 use Rattle.serial_pager.specs.Services.{FailsToWrite, Writes}
-use Rattle.serial_pager.specs.Writings.{RoseAt, flushes}
+use Rattle.serial_pager.specs.Writings.{RoseAt, WroteBack, flushes, is_failed_write}
 use Rattle.serial_pager.proofs.Owes.{NoMoreOwed, no_more_twice, unwritten_dirty, unwritten_owes, written_clean, written_dirty, written_owes}
 use Rattle.serial_pager.proofs.Returns.{names_unwritten}
 
@@ -47,12 +51,32 @@ module _ {X : Type 0} (c d : Core) (k : Key) where
       let names = names_unwritten c d rest fault (subst (λ (j : Key). is_home c j.region ≡ true) (sym f.key) home) own in
       subst (λ (j : Key). RoseAt c d j.region) f.key (subst (λ (n : ℕ). Rose (count_at c fault.key.region) n) names.count names.rose)
 
+-- ---- the entries of writes for a flush
+
+module _ {J : Type 0} (noted : J → History Entry → Type 0) where
+  pub back_none : (a : StripeSeen J) → WroteBack noted false a a
+  back_none a = record { entries = []; pass = refl; fails = refl; went = went_nowhere noted a }
+
+  pub back_twice : (f g : Bool) (a b c : StripeSeen J) → WroteBack noted f a b → WroteBack noted g b c → WroteBack noted (f || g) a c
+  back_twice f g a b c one two = record {
+    entries = two.entries ++ one.entries;
+    pass = all_both noted flushes two.entries one.entries two.pass one.pass;
+    fails = list_any-append is_failed_write two.entries one.entries ∙ (ap (λ x. x || list_any is_failed_write one.entries) two.fails ∙ (ap (λ x. g || x) one.fails ∙ or_comm g f));
+    went = went_twice noted one.entries two.entries a b c one.went two.went;
+  }
+
+  -- the entries of one write tell whether it failed
+  pub page_back : {X : Type 0} (k : Key) (a b : StripeSeen J) (r : Result X PageFault) → OnOk r ((at : ℕ) × (bytes : List ℕ) × Went noted (entry.Written k at bytes ∷ entry.StartWrite k Flush ∷ []) a b)
+      → IfErr r (λ f. Went noted (entry.WriteFailed k f.faults ∷ entry.StartWrite k Flush ∷ []) a b) → WroteBack noted (is_err r) a b
+  page_back k a b (Ok x) w f = record { entries = entry.Written k w.0 w.1 ∷ entry.StartWrite k Flush ∷ []; pass = refl; fails = refl; went = w.2 }
+  page_back k a b (Err fault) w f = record { entries = entry.WriteFailed k fault.faults ∷ entry.StartWrite k Flush ∷ []; pass = refl; fails = refl; went = f }
+
 -- ---- a region's pages, one after another
 
 -- what trying to write the pages below `upto` of a region has done
 pub record Tried {J : Type 0} (has_noted : J → History Entry → Type 0) (region upto : ℕ) (failed : Bool) (old new : StripeSeen J) : Type 0 where
   pub rest : IsAtRest new.core
-  pub went : WentBy has_noted flushes old new
+  pub went : WroteBack has_noted failed old new
   pub owes : NoMoreOwed old.core new.core
   pub counts : CountsGrow old.core new.core
   pub stays_clean : (j : Key) → is_dirty old.core j ≡ false → is_dirty new.core j ≡ false
@@ -63,7 +87,7 @@ pub record Tried {J : Type 0} (has_noted : J → History Entry → Type 0) (regi
 -- what one try did
 pub record TriedOne {J : Type 0} (has_noted : J → History Entry → Type 0) (k : Key) (failed : Bool) (old new : StripeSeen J) : Type 0 where
   pub rest : IsAtRest new.core
-  pub went : WentBy has_noted flushes old new
+  pub went : WroteBack has_noted failed old new
   pub owes : NoMoreOwed old.core new.core
   pub counts : CountsGrow old.core new.core
   pub stays_clean : (j : Key) → is_dirty old.core j ≡ false → is_dirty new.core j ≡ false
@@ -84,7 +108,7 @@ module _ {J : Type 0} (noted : J → History Entry → Type 0) (region : ℕ) wh
   pub tried_none : (a : StripeSeen J) → IsAtRest a.core → Tried noted region 0 false a a
   tried_none a rest = record {
     rest = rest;
-    went = by_none noted flushes a;
+    went = back_none noted a;
     owes = λ j e. e;
     counts = λ r. omega arith;
     stays_clean = λ j e. e;
@@ -112,7 +136,7 @@ module _ {J : Type 0} (noted : J → History Entry → Type 0) (region : ℕ) wh
   pub tried_page : (p : ℕ) (failed : Bool) (o a b : StripeSeen J) → Tried noted region p failed o a → (now : Bool) → TriedOne noted (record { region = region; page = p }) now a b → Tried noted region (p + 1) (failed || now) o b
   tried_page p failed o a b t now q = record {
     rest = q.rest;
-    went = by_twice noted flushes o a b t.went q.went;
+    went = back_twice noted failed now o a b t.went q.went;
     owes = no_more_twice o.core a.core b.core t.owes q.owes;
     counts = counts_twice o.core a.core b.core t.counts q.counts;
     stays_clean = λ j e. q.stays_clean j (t.stays_clean j e);
@@ -140,11 +164,11 @@ page_of_other s shape region p n is comes other j at here page =
     let same_number : stripe_of s.stripes shape.group j.region j.page ≡ s.number = eqb-true (stripe_of s.stripes shape.group j.region j.page) s.number mine in
     other (comes ∙ (ap (λ r. stripe_of s.stripes shape.group r p) (sym at) ∙ (ap (λ q. stripe_of s.stripes shape.group j.region q) (sym here) ∙ same_number)))
 
-or_true : (b : Bool) → (b || true) ≡ true
+pub or_true : (b : Bool) → (b || true) ≡ true
 or_true true = refl
 or_true false = refl
 
-or_false : (b : Bool) → (b || false) ≡ b
+pub or_false : (b : Bool) → (b || false) ≡ b
 or_false true = refl
 or_false false = refl
 
@@ -160,7 +184,7 @@ module _ {J : Type 0} (noted : J → History Entry → Type 0) (region p : ℕ) 
 -- what trying to write the regions below `upto` has done
 pub record TriedAll {J : Type 0} (has_noted : J → History Entry → Type 0) (upto : ℕ) (failed : Bool) (old new : StripeSeen J) : Type 0 where
   pub rest : IsAtRest new.core
-  pub went : WentBy has_noted flushes old new
+  pub went : WroteBack has_noted failed old new
   pub owes : NoMoreOwed old.core new.core
   pub counts : CountsGrow old.core new.core
   pub each : (r : ℕ) → r < upto → RoseAt old.core new.core r ⊎ IsClean new.core r
@@ -171,7 +195,7 @@ pub record TriedAll {J : Type 0} (has_noted : J → History Entry → Type 0) (u
 -- what trying to write one region did
 pub record TriedRegion {J : Type 0} (has_noted : J → History Entry → Type 0) (region pages : ℕ) (failed : Bool) (old new : StripeSeen J) : Type 0 where
   pub rest : IsAtRest new.core
-  pub went : WentBy has_noted flushes old new
+  pub went : WroteBack has_noted failed old new
   pub owes : NoMoreOwed old.core new.core
   pub counts : CountsGrow old.core new.core
   pub stays_clean : (j : Key) → is_dirty old.core j ≡ false → is_dirty new.core j ≡ false
@@ -192,8 +216,8 @@ flush_stores : (e : Entry) → flushes e ≡ true → stores_nothing e ≡ true
 flush_stores (entry.Save j place bytes) e = absurd cc
 flush_stores x e = refl
 
-pub flushes_hold : {J : Type 0} (noted : J → History Entry → Type 0) (old new : StripeSeen J) → IsAtRest old.core → IsAtRest new.core → WentBy noted flushes old new → HoldsSame old.core new.core
-flushes_hold noted old new a b w = holds_same noted w.entries old new a b w.went (list_weaker flushes stores_nothing w.entries flush_stores w.pass)
+pub flushes_hold : {J : Type 0} (noted : J → History Entry → Type 0) (failed : Bool) (old new : StripeSeen J) → IsAtRest old.core → IsAtRest new.core → WroteBack noted failed old new → HoldsSame old.core new.core
+flushes_hold noted failed old new a b w = holds_same noted w.entries old new a b w.went (list_weaker flushes stores_nothing w.entries flush_stores w.pass)
 
 got_or : (shapes : List RegionShape) (r : ℕ) (shape : RegionShape) → slice_get shapes r ≡ Some shape → get_or shapes r shape ≡ shape
 got_or [] r shape is = absurd cc
@@ -207,7 +231,7 @@ module _ {J : Type 0} (noted : J → History Entry → Type 0) where
   pub all_none : (a : StripeSeen J) → IsAtRest a.core → TriedAll noted 0 false a a
   all_none a rest = record {
     rest = rest;
-    went = by_none noted flushes a;
+    went = back_none noted a;
     owes = λ j e. e;
     counts = λ r. omega arith;
     each = λ r lt. absurd (omega arith);
@@ -219,7 +243,7 @@ module _ {J : Type 0} (noted : J → History Entry → Type 0) where
   pub all_more : (r : ℕ) (shape : RegionShape) (failed : Bool) (o a b : StripeSeen J) → TriedAll noted r failed o a → slice_get o.core.setup.shapes r ≡ Some shape → (now : Bool) → TriedRegion noted r shape.pages now a b → TriedAll noted (r + 1) (failed || now) o b
   all_more r shape failed o a b t is now q = record {
     rest = q.rest;
-    went = by_twice noted flushes o a b t.went q.went;
+    went = back_twice noted failed now o a b t.went q.went;
     owes = no_more_twice o.core a.core b.core t.owes q.owes;
     counts = counts_twice o.core a.core b.core t.counts q.counts;
     each = λ i lt. elim (either_way i r lt) [

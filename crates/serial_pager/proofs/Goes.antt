@@ -26,7 +26,7 @@ module _ {J : Type 0} (noted : J → History Entry → Type 0) where
     noted = λ h n. subst (λ x. noted c.journal x) (by_both later old h) (two.noted (by 0 old ++ h) (one.noted h n));
   }
 
-  all_both : (p : Entry → Bool) (xs ys : List Entry) → list_all p xs ≡ true → list_all p ys ≡ true → list_all p (xs ++ ys) ≡ true
+  pub all_both : (p : Entry → Bool) (xs ys : List Entry) → list_all p xs ≡ true → list_all p ys ≡ true → list_all p (xs ++ ys) ≡ true
   all_both p xs ys x y = list_all-append p xs ys ∙ and_from (list_all p xs) (list_all p ys) x y
 
   pub by_none : (p : Entry → Bool) (a : StripeSeen J) → WentBy noted p a a

@@ -10,6 +10,7 @@ use Rattle.page_base.specs.declared.keys.Key.{Key}
 use Rattle.page_base.specs.declared.keys.RegionShape.{RegionShape}
 use Rattle.page_model.specs.Core.{Core, LanePlace, Home, RegionSeen}
 use Rattle.page_model.specs.Setups.{Setup, base_of, told_by, first_count, count_by}
+use Rattle.page_model.specs.Stands.{StandsFor}
 use Rattle.page_model.specs.Steps.{fresh, fresh_regions}
 use Rattle.stripe_core.specs.declared.config.StripeConfig.{StripeConfig}
 use Rattle.stripe_core.specs.Configs.{setup_of, CanMake}
@@ -61,6 +62,7 @@ lanes_of x = x.core.setup.lanes
 pub record IsNew {J : Type 0} (c : PagerConfig) (s : ℕ) (x : StripeSeen J) : Type 0 where
   pub core : x.core ≡ fresh (setup_of (config_of c s) (lanes_of x))
   pub can : CanMake (config_of c s) (lanes_of x)
+  pub stands : StandsFor [] x.core
   pub rest : IsAtRest x.core
   pub owes : (k : Key) → stripe.owes x.core k ≡ false
   pub held : (k : Key) → stripe.held x.core k ≡ base_of x.core.setup k
@@ -87,7 +89,7 @@ module _ {J S : Type 0} (seen : S → LaneSeen) (c : PagerConfig) (cfg : StripeC
     can_next = subst (λ (k : StripeConfig). CanMake k (map seen own.items)) (sym m.config)
         (can.each (length stripes) (map seen own.items) (ap (λ rs. slice_get rs (length stripes)) rows_next ∙ ap (slice_get (map lanes_of stripes ++ (map seen own.items ∷ reverse (rows_by seen home)))) (sym (length-map stripes (lanes_of {J = J}))) ∙ at_seam (map lanes_of stripes) (reverse (rows_by seen home)) (map seen own.items)))
 
-    module _ (pop_noted : noted ≡ left ++ journal ∷ []) (x : StripeSeen J) (core : x.core ≡ fresh (setup_of cfg (map seen own.items))) (its : x.journal ≡ journal) (rest : IsAtRest x.core) (owed : (k : Key) → stripe.owes x.core k ≡ false) (holds : (k : Key) → stripe.held x.core k ≡ base_of x.core.setup k) (counted : (r : ℕ) → stripe.count_at x.core r ≡ first_count x.core.setup r) where
+    module _ (pop_noted : noted ≡ left ++ journal ∷ []) (x : StripeSeen J) (core : x.core ≡ fresh (setup_of cfg (map seen own.items))) (its : x.journal ≡ journal) (stood : StandsFor [] x.core) (rest : IsAtRest x.core) (owed : (k : Key) → stripe.owes x.core k ≡ false) (holds : (k : Key) → stripe.held x.core k ≡ base_of x.core.setup k) (counted : (r : ℕ) → stripe.count_at x.core r ≡ first_count x.core.setup r) where
       own_lanes : lanes_of x ≡ map seen own.items
       own_lanes = ap (λ (d : Core). d.setup.lanes) core
 
@@ -95,6 +97,7 @@ module _ {J S : Type 0} (seen : S → LaneSeen) (c : PagerConfig) (cfg : StripeC
       new = record {
         core = core ∙ ap (λ (k : StripeConfig). fresh (setup_of k (map seen own.items))) m.config ∙ ap (λ l. fresh (setup_of (config_of c (length stripes)) l)) (sym own_lanes);
         can = subst (λ (l : List LaneSeen). CanMake (config_of c (length stripes)) l) (sym own_lanes) (subst (λ (k : StripeConfig). CanMake k (map seen own.items)) m.config can_next);
+        stands = stood;
         rest = rest;
         owes = owed;
         held = holds;
@@ -194,7 +197,7 @@ module _ {J S : Type 0} (seen : S → LaneSeen) (c : PagerConfig) (cfg : StripeC
       shapes = ap (λ (q : PagerSeen J). q.shapes) is ∙ ap (λ (k : StripeConfig). k.shapes.items) m.config;
       stripes = ap (λ (q : PagerSeen J). length q.stripes) is ∙ as_many;
       spent = ap (λ (q : PagerSeen J). q.spent) is;
-      each = λ s row j x e f at. let here = sym (in_p s) ∙ at in let n = m.made s x here in record { core = n.core ∙ ap (λ l. fresh (setup_of (config_of c s) l)) (row_of s row x e here); journal = journal_of s j x f here };
+      each = λ s row j x e f at. let here = sym (in_p s) ∙ at in let n = m.made s x here in record { core = n.core ∙ ap (λ l. fresh (setup_of (config_of c s) l)) (row_of s row x e here); stands = n.stands; journal = journal_of s j x f here };
       holds = λ k row e. held_go k row e (slice_get stripes (stripe_at p k)) refl;
       owes = λ k. owes_go k (slice_get stripes (stripe_at p k)) refl;
       counts = λ s r row e. counts_go s r row e (slice_get stripes s) refl;

@@ -1,5 +1,5 @@
 -- One stripe of a pager changed, as all its pages see it.
-use Rattle.std.proofs.Common.{◌≡◌, ◌⊎◌, inl, inr, ℕ, ◌≤◌, true, List, length, Option, Some, None, slice_get, slice_set, sym, ap, subst, ◌∙◌, arith}
+use Rattle.std.proofs.Common.{◌≡◌, ◌⊎◌, inl, inr, ℕ, zero, suc, ◌≤◌, true, List, [], ◌∷◌, length, map, Option, Some, None, slice_get, slice_set, sym, ap, subst, ◌∙◌, arith}
 use Rattle.std.specs.Option.{option_map}
 use Rattle.std.proofs.lemmas.Bool.{cases_eq, and_parts, eq-eqb, eqb-true}
 use Rattle.std.specs.Cmp.Derive.{both_true}
@@ -12,8 +12,9 @@ use Rattle.page_model.specs.Setups.{Setup}
 use Rattle.page_model.proofs.Changes.{slice_set_same, slice_set_other, slice_set_length}
 use Rattle.serial_pager.specs.Seen.{StripeSeen}
 use Rattle.serial_pager.specs.Holdings as stripe
-use Rattle.serial_pager.specs.Pagers.{PagerSeen, group_in, page_in, core_in, held_in, owes_in, count_in, core_at, has_page, is_writable, may_store, stripe_at, held, owes, count_at, setup_at, HoldsSame, CountsGrow}
+use Rattle.serial_pager.specs.Pagers.{PagerSeen, group_in, page_in, core_in, held_in, owes_in, count_in, core_at, has_page, is_writable, may_store, stripe_at, held, owes, count_at, setup_at, journals_made, HoldsSame, CountsGrow}
 use Rattle.serial_pager.specs.Sound.{IsStripe}
+use Rattle.serial_pager.proofs.Unmade.{some_is}
 
 -- ---- which stripe a page lies in
 
@@ -45,6 +46,12 @@ module _ {J : Type 0} (p : PagerSeen J) (s : ℕ) (c : Core) (part : IsStripe p 
   writable_stripe r e = subst (λ (ss : List RegionShape). setup.may_write (slice_get ss r) ≡ true) (sym part.shapes) (writable_in (slice_get p.shapes r) e)
 
 -- ---- one stripe changed
+
+-- an item that maps to what it did
+pub map_set : {A B : Type 0} (f : A → B) (xs : List A) (i : ℕ) (x y : A) → slice_get xs i ≡ Some x → f y ≡ f x → map f (slice_set xs i y) ≡ map f xs
+map_set f [] i x y is same = absurd (cc)
+map_set f (z ∷ xs) zero x y is same = ap (λ v. v ∷ map f xs) (same ∙ ap f (sym (some_is is)))
+map_set f (z ∷ xs) (suc i) x y is same = ap (λ vs. f z ∷ vs) (map_set f xs i x y is same)
 
 module _ {J : Type 0} (old new : PagerSeen J) (s : ℕ) (x y : StripeSeen J) (was : slice_get old.stripes s ≡ Some x) (is : new.stripes ≡ slice_set old.stripes s y) (shapes : new.shapes ≡ old.shapes) where
   pub as_many : length new.stripes ≡ length old.stripes
@@ -79,6 +86,9 @@ module _ {J : Type 0} (old new : PagerSeen J) (s : ℕ) (x y : StripeSeen J) (wa
     | inl here ↦ ap (setup_at new) here ∙ ap (option_map (λ (c : Core). c.setup)) core_here ∙ ap (λ (u : Setup). Some u) e ∙ sym (ap (option_map (λ (c : Core). c.setup)) core_was) ∙ sym (ap (setup_at old) here)
     | inr other ↦ ap (option_map (λ (c : Core). c.setup)) (core_other t other)
   ]
+
+  pub journals_same : {M : Type 0} (made_with : J → M) → made_with y.journal ≡ made_with x.journal → journals_made made_with new ≡ journals_made made_with old
+  journals_same made_with e = ap (map (λ (v : StripeSeen J). made_with v.journal)) is ∙ map_set (λ (v : StripeSeen J). made_with v.journal) old.stripes s x y was e
 
   pub held_same : ((k : Key) → has_page old k ≡ true → stripe_at old k ≡ s → stripe.held y.core k ≡ stripe.held x.core k) → HoldsSame old new
   held_same same k page = elim (cases_eq (stripe_at old k) s) [

@@ -1,12 +1,16 @@
 -- What contracts see of a pager: its stripes, and what its pages hold whatever stripe they are in.
-use Rattle.std.specs.Prelude.{◌≡◌, ℕ, ◌+◌, ◌<◌, ◌≤◌, ◌⊎◌, Bool, true, false, nat_lt, List, length, map, slice_get, slice_set, Option, Some, None, IfSome, option_map}
+use Rattle.std.specs.Prelude.{◌≡◌, ℕ, ◌+◌, ◌<◌, ◌≤◌, ◌⊎◌, Bool, true, false, nat_lt, List, [], length, map, slice_get, slice_set, Option, Some, None, IfSome, option_map}
+use Rattle.std.specs.List.{list_all, list_any}
+use Rattle.histories.specs.Histories.{History}
 use Rattle.page_base.specs.declared.keys.Key.{Key}
 use Rattle.page_base.specs.declared.keys.RegionShape.{RegionShape}
 use Rattle.page_base.specs.Lanes.{LaneSeen, Rose}
 use Rattle.page_base.specs.Pages.{stripe_of}
+use Rattle.page_model.specs.declared.entry.Entry.{Entry}
 use Rattle.page_model.specs.Setups.{Setup, quota, told_by, count_by, origin_of}
 use Rattle.page_model.specs.Core.{Core}
 use Rattle.page_model.specs.Readers.{IsHere}
+use Rattle.page_model.specs.Stands.{StandsFor}
 use Rattle.page_model.specs.Steps.{fresh}
 use Rattle.stripe_core.specs.declared.config.StripeConfig.{StripeConfig}
 use Rattle.stripe_core.specs.Configs.{setup_of, CanMake}
@@ -16,6 +20,8 @@ use Rattle.serial_pager.specs.declared.fault.PageFault.{PageFault}
 use Rattle.serial_pager.specs.declared.pager.PagerConfig.{PagerConfig}
 use Rattle.serial_pager.specs.Seen.{StripeSeen}
 use Rattle.serial_pager.specs.Holdings as stripe
+use Rattle.serial_pager.specs.Goings.{Went}
+use Rattle.serial_pager.specs.Writings.{flushes, is_failed_write}
 
 -- the stripes in order of number; `spent` counts the pieces that were loaded or stored, and writing all dirty pages as 64 of them
 pub record PagerSeen (J : Type 0) : Type 0 where
@@ -140,6 +146,22 @@ module _ {J : Type 0} where
     pub is : new.stripes ≡ slice_set old.stripes s after
     pub does : Does before after
 
+  -- in each stripe these entries were made, the newest first
+  abbrev pub WentAll : (has_noted : J → History Entry → Type 0) → (made : ℕ → List Entry) → (old new : PagerSeen J) → Type 0
+  WentAll has_noted made old new = (s : ℕ) (x y : StripeSeen J) → slice_get old.stripes s ≡ Some x → slice_get new.stripes s ≡ Some y → Went has_noted (made s) x y
+
+  -- what the stripes' journals were made with
+  abbrev pub journals_made : {M : Type 0} → (J → M) → PagerSeen J → List M
+  journals_made made_with p = map (λ (x : StripeSeen J). made_with x.journal) p.stripes
+
+  -- every stripe wrote its dirty pages, by writes for a flush alone: some write failed, or none did
+  pub record WroteDirty (has_noted : J → History Entry → Type 0) (failed : Bool) (old new : PagerSeen J) : Type 0 where
+    pub made : ℕ → List Entry  -- by the stripe's number
+    pub went : WentAll has_noted made old new
+    pub pass : (s : ℕ) → list_all flushes (made s) ≡ true
+    pub some : failed ≡ true → (s : ℕ) × (s < length old.stripes) × (list_any is_failed_write (made s) ≡ true)
+    pub none : failed ≡ false → (s : ℕ) → list_any is_failed_write (made s) ≡ false
+
   -- each page holds what it held
   abbrev pub HoldsSame : (old new : PagerSeen J) → Type 0
   HoldsSame old new = (k : Key) → has_page old k ≡ true → held new k ≡ held old k
@@ -173,9 +195,10 @@ module _ {J : Type 0} where
     pub count : length rows ≡ length p.stripes
     pub each : (s : ℕ) (row : List LaneSeen) (c : Core) → slice_get rows s ≡ Some row → core_at p s ≡ Some c → AreLanesOf c row
 
-  -- the stripe has just been made with these lanes
+  -- the stripe has just been made with these lanes, and stands for no entry
   pub record IsMade (c : PagerConfig) (s : ℕ) (row : List LaneSeen) (first : J) (x : StripeSeen J) : Type 0 where
     pub core : x.core ≡ fresh (setup_of (config_of c s) row)
+    pub stands : StandsFor [] x.core
     pub journal : x.journal ≡ first
 
   pub record IsOpened (c : PagerConfig) (rows : List (List LaneSeen)) (journals : List J) (p : PagerSeen J) : Type 0 where

@@ -1,5 +1,6 @@
 -- What ties the fields of a pager; no public contract cites it.
-use Rattle.std.specs.Prelude.{◌≡◌, ℕ, ◌+◌, ◌*◌, ◌^◌, ◌<◌, ◌≤◌, true, List, ◌++◌, length, reverse, slice_get, Some}
+use Rattle.std.specs.Prelude.{◌≡◌, ℕ, ◌+◌, ◌*◌, ◌^◌, ◌<◌, ◌≤◌, Bool, true, false, List, ◌++◌, length, reverse, slice_get, Some}
+use Rattle.std.specs.List.{list_all, list_any}
 use Rattle.page_base.specs.Lanes.{LaneSeen}
 use Rattle.page_base.specs.declared.keys.Key.{Key}
 use Rattle.page_base.specs.declared.keys.RegionShape.{RegionShape}
@@ -9,10 +10,10 @@ use Rattle.serial_pager.specs.Seen.{StripeSeen}
 use Rattle.histories.specs.Histories.{History}
 use Rattle.page_model.specs.declared.entry.Entry.{Entry}
 use Rattle.page_model.specs.Setups.{regions}
-use Rattle.serial_pager.specs.Goings.{WentBy}
+use Rattle.serial_pager.specs.Goings.{Went}
 use Rattle.serial_pager.specs.Holdings as one
 use Rattle.serial_pager.specs.Holdings.{HoldsSame, CountsGrow}
-use Rattle.serial_pager.specs.Writings.{flushes, RoseAt, IsTried}
+use Rattle.serial_pager.specs.Writings.{flushes, is_failed_write, RoseAt, IsTried}
 use Rattle.serial_pager.specs.Rests.{IsAtRest}
 use Rattle.serial_pager.specs.Pagers.{PagerSeen, AreLanesOf}
 
@@ -39,14 +40,22 @@ pub record MayFlush (c : StripeConfig) (size s : ℕ) (core : Core) : Type 0 whe
   pub shapes : c.shapes.items ≡ core.setup.shapes
 
 -- and has written them
-pub record Flushes {J : Type 0} (has_noted : J → History Entry → Type 0) (x y : StripeSeen J) : Type 0 where
+pub record Flushes {J : Type 0} (x y : StripeSeen J) : Type 0 where
+  pub fixed : y.core.setup ≡ x.core.setup
   pub rest : IsAtRest y.core
   pub few : y.core.events ≤ x.core.events + 2 ^ 22
   pub held : HoldsSame x.core y.core
   pub owes : (k : Key) → one.owes y.core k ≡ true → one.owes x.core k ≡ true
-  pub entries : WentBy has_noted flushes x y
   pub counts : CountsGrow x.core y.core
   pub tried : (r : ℕ) → r < regions x.core.setup → IsTried x.core y.core r
+
+-- each of these stripes has, by these entries: a write of some stripe failed, or none did
+pub record FlushesAll {J : Type 0} (has_noted : J → History Entry → Type 0) (failed : Bool) (old new : List (StripeSeen J)) : Type 0 where
+  pub made : ℕ → List Entry
+  pub went : (s : ℕ) (x y : StripeSeen J) → slice_get old s ≡ Some x → slice_get new s ≡ Some y → Went has_noted (made s) x y
+  pub pass : (s : ℕ) → list_all flushes (made s) ≡ true
+  pub some : failed ≡ true → (s : ℕ) × (s < length old) × (list_any is_failed_write (made s) ≡ true)
+  pub none : failed ≡ false → (s : ℕ) → list_any is_failed_write (made s) ≡ false
 
 -- some lane of some stripe counts more faults than before
 pub record SomeRose {J : Type 0} (old new : List (StripeSeen J)) : Type 0 where

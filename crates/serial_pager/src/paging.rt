@@ -1,16 +1,15 @@
 //! The calls of a pager: loads and stores of one piece of a page, and writing all dirty pages.
-ghost use Rattle.std.specs.Prelude.{◌≡◌, ◌≤◌, ◌<◌, ◌+◌, ◌^◌, ◌⊎◌, ℕ, true, false, length, slice_range, slice_get, Some, OnOk, OnErr, IfErr, IfSome, option_map};
+ghost use Rattle.std.specs.Prelude.{◌≡◌, ◌≤◌, ◌<◌, ◌+◌, ◌^◌, ◌⊎◌, ℕ, true, false, length, map, slice_range, slice_get, Some, OnOk, OnErr, IfErr, IfSome, option_map};
 ghost use Rattle.page_base.specs.declared.keys.Key.{Key};
 ghost use Rattle.page_base.specs.ListSeen.{spliced};
 ghost use Rattle.page_model.specs.declared.entry.Entry.TheVariants as entry;
 ghost use Rattle.serial_pager.specs.Accesses.{serves, is_read, AccessFails};
-ghost use Rattle.serial_pager.specs.Goings.{WentBy, WentTo};
+ghost use Rattle.serial_pager.specs.Goings.{WentTo};
 ghost use Rattle.serial_pager.specs.Holdings as one;
 ghost use Rattle.serial_pager.specs.Holdings.{is_for_store};
-ghost use Rattle.serial_pager.specs.Writings.{flushes};
 ghost use Rattle.page_model.specs.Setups.{regions};
-ghost use Rattle.serial_pager.specs.Sound.{MayFlush, Flushes, SomeRose};
-ghost use Rattle.serial_pager.specs.Pagers.{IsPiece, IsSame, IsWithin, OnStripe, HoldsSame, CountsGrow, NamesFault, RoseAt, IsTried, IsKept, has_page, is_writable, stripe_at, held, kept, owes};
+ghost use Rattle.serial_pager.specs.Sound.{MayFlush, Flushes, FlushesAll, SomeRose};
+ghost use Rattle.serial_pager.specs.Pagers.{IsPiece, IsSame, IsWithin, OnStripe, WroteDirty, journals_made, HoldsSame, CountsGrow, NamesFault, RoseAt, IsTried, IsKept, has_page, is_writable, stripe_at, held, kept, owes};
 
 use crate::fault::PageFault;
 use crate::pager::SerialPager;
@@ -31,7 +30,9 @@ fn write_stripes<S: Store, J: Journal>(
     requires each { (s : ℕ) (x : _) → slice_get stripes.old.items s ≡ Some x → MayFlush config.old (length scratch.old) s x.core }
     ensures count { length stripes.new.items ≡ length stripes.old.items }
     ensures config { (n : ℕ) × (config.new ≡ record config.old { number = n }) }
-    ensures flushed { (s : ℕ) (x y : _) → slice_get stripes.old.items s ≡ Some x → slice_get stripes.new.items s ≡ Some y → Flushes J.has_noted x y }
+    ensures flushed { (s : ℕ) (x y : _) → slice_get stripes.old.items s ≡ Some x → slice_get stripes.new.items s ≡ Some y → Flushes x y }
+    ensures entries { FlushesAll J.has_noted result stripes.old.items stripes.new.items }
+    ensures made { map (λ x. J.made_with x.journal) stripes.new.items ≡ map (λ x. J.made_with x.journal) stripes.old.items }
     ensures failed { result ≡ true → SomeRose stripes.old.items stripes.new.items }
     ensures stored { result ≡ false → (s : ℕ) (y : _) → slice_get stripes.new.items s ≡ Some y → (r : ℕ) → r < regions y.core.setup → one.IsStored y.core r }
 {
@@ -69,6 +70,7 @@ impl<S: Store, J: Journal> SerialPager<S, J> {
         requires piece { IsPiece self.old key place (length buf.old) }
         requires few { self.old.spent < 2 ^ 44 }
         ensures same { IsSame self.old self.new }
+        ensures made { journals_made J.made_with self.new ≡ journals_made J.made_with self.old }
         ensures spent { self.new.spent ≡ self.old.spent + 1 }
         ensures within { IsWithin self.new }
 
@@ -96,6 +98,7 @@ impl<S: Store, J: Journal> SerialPager<S, J> {
         requires writable { is_writable self.old key.region ≡ true }
         requires few { self.old.spent < 2 ^ 44 }
         ensures same { IsSame self.old self.new }
+        ensures made { journals_made J.made_with self.new ≡ journals_made J.made_with self.old }
         ensures spent { self.new.spent ≡ self.old.spent + 1 }
         ensures within { IsWithin self.new }
 
@@ -122,11 +125,12 @@ impl<S: Store, J: Journal> SerialPager<S, J> {
     pub fn write_dirty(&mut self) -> bool
         requires few { self.old.spent + 64 ≤ 2 ^ 44 }
         ensures same { IsSame self.old self.new }
+        ensures made { journals_made J.made_with self.new ≡ journals_made J.made_with self.old }
         ensures spent { self.new.spent ≡ self.old.spent + 64 }
         ensures within { IsWithin self.new }
         ensures held { HoldsSame self.old self.new }
         ensures owes { (k : Key) → owes self.new k ≡ true → owes self.old k ≡ true }
-        ensures entries { (s : ℕ) (x y : _) → slice_get self.old.stripes s ≡ Some x → slice_get self.new.stripes s ≡ Some y → WentBy J.has_noted flushes x y }
+        ensures entries { WroteDirty J.has_noted result self.old self.new }
         ensures counts { CountsGrow self.old self.new }
         ensures tried { (s r : ℕ) → s < length self.old.stripes → r < length self.old.shapes → IsTried self.old self.new s r }
         ensures failed { result ≡ true → (s : ℕ) × (r : ℕ) × (s < length self.old.stripes) × (r < length self.old.shapes) × RoseAt self.old self.new s r }

@@ -3,10 +3,9 @@ ghost use Rattle.std.specs.Prelude.{◌≡◌, ℕ, ◌+◌, ◌<◌, ◌≤◌,
 ghost use Rattle.page_model.specs.Setups.{regions, has_page};
 ghost use Rattle.page_base.specs.declared.keys.Key.{Key};
 ghost use Rattle.page_model.specs.Core.{is_dirty};
-ghost use Rattle.serial_pager.specs.Goings.{WentBy};
 ghost use Rattle.serial_pager.specs.Holdings.{CountsGrow, HoldsSame, IsClean, IsStored, owes};
 ghost use Rattle.serial_pager.specs.Rests.{IsAtRest, IsConfigOf};
-ghost use Rattle.serial_pager.specs.Writings.{flushes, RoseAt, IsTried};
+ghost use Rattle.serial_pager.specs.Writings.{WroteBack, RoseAt, IsTried};
 
 use crate::stripe::SerialStripe;
 use page_base::{Key, RegionShape};
@@ -27,7 +26,7 @@ impl<S: Store, J: Journal> SerialStripe<S, J> {
         ensures made { J.made_with self.new.journal ≡ J.made_with self.old.journal }
         ensures few { self.new.core.events ≤ self.old.core.events + 2 ^ 22 }
         ensures held { HoldsSame self.old.core self.new.core }
-        ensures entries { WentBy J.has_noted flushes self.old self.new }
+        ensures entries { WroteBack J.has_noted result self.old self.new }
         ensures owes { (k : Key) → owes self.new.core k ≡ true → owes self.old.core k ≡ true }
         ensures counts { CountsGrow self.old.core self.new.core }
         ensures tried { (r : ℕ) → r < regions self.old.core.setup → IsTried self.old.core self.new.core r }
@@ -60,7 +59,7 @@ impl<S: Store, J: Journal> SerialStripe<S, J> {
         ensures rest { IsAtRest self.new.core }
         ensures made { J.made_with self.new.journal ≡ J.made_with self.old.journal }
         ensures few { self.new.core.events ≤ self.old.core.events + 2 * shape.pages }
-        ensures went { WentBy J.has_noted flushes self.old self.new }
+        ensures went { WroteBack J.has_noted result self.old self.new }
         ensures owes { (k : Key) → owes self.new.core k ≡ true → owes self.old.core k ≡ true }
         ensures counts { CountsGrow self.old.core self.new.core }
         ensures clean { (j : Key) → is_dirty self.old.core j ≡ false → is_dirty self.new.core j ≡ false }
@@ -87,7 +86,7 @@ impl<S: Store, J: Journal> SerialStripe<S, J> {
         ensures rest { IsAtRest self.new.core }
         ensures made { J.made_with self.new.journal ≡ J.made_with self.old.journal }
         ensures few { self.new.core.events ≤ self.old.core.events + 2 }
-        ensures went { WentBy J.has_noted flushes self.old self.new }
+        ensures went { WroteBack J.has_noted result self.old self.new }
         ensures owes { (k : Key) → owes self.new.core k ≡ true → owes self.old.core k ≡ true }
         ensures counts { CountsGrow self.old.core self.new.core }
         ensures clean { (j : Key) → is_dirty self.old.core j ≡ false → is_dirty self.new.core j ≡ false }

@@ -10,7 +10,7 @@ use Rattle.serial_pager.specs.Holdings as stripe
 use Rattle.serial_pager.specs.Holdings.{is_for_store}
 use Rattle.serial_pager.specs.Pagers.{OnStripe}
 use Rattle.serial_pager.specs.Sound.{seen_of}
-use Rattle.serial_pager.proofs.Stripes.{stripe_of_pages, writable_stripe, held_same, held_others, held_here, held_was, owes_same, counts_grow}
+use Rattle.serial_pager.proofs.Stripes.{stripe_of_pages, writable_stripe, held_same, held_others, held_here, held_was, owes_same, counts_grow, journals_same}
 use Rattle.serial_pager.proofs.Pieces.{touched, piece_in_page, access_setup, sound_on, same_on, on_stripe, names_on, few_is, within_of, on_ok, on_err, if_err, with_owed}
 use Rattle.serial_pager.proofs.pager.SerialPager.store.Goals as goal
 
@@ -197,6 +197,20 @@ returns-clause-counts g c =
     let e = c.store.ensures in
     let setup : y.core.setup ≡ x.core.setup = access_setup g.J.Journal.has_noted c.args.key is_for_store c.store.result (entry.Save c.args.key c.args.place c.args.bytes.now) (stripe.owes_with x.core c.args.key) x y e.ok e.err in
     counts_grow p q s x y t.was is shapes e.counts
+
+pub returns-clause-made : goal.returns-clause-made
+returns-clause-made g c =
+    let p = c.args.self.now in
+    let ins = c.self.inside in
+    let s = c.stripe_of-stripe.result in
+    let x = c.index_mut.result.now in
+    let t = touched p ins.config ins.stripes.items ins.spent s x c.self.view_is c.self.invariant.0 c.stripe_of-stripe.ensures.below c.index_mut.ensures.value in
+    let y = c.store.new.self in
+    let q = seen_of ins.config (slice_set ins.stripes.items s y) (ins.spent + 1) in
+    let is : q.stripes ≡ slice_set p.stripes s y = ap (λ v. slice_set v.stripes s y) c.self.view_is in
+    let shapes : q.shapes ≡ p.shapes = ap (λ v. v.shapes) c.self.view_is in
+    let e = c.store.ensures in
+    journals_same p q s x y t.was is shapes g.J.Journal.made_with e.made
 
 pub returns-clause-untouched : goal.returns-clause-untouched
 returns-clause-untouched g c =

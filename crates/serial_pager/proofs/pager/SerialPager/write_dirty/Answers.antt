@@ -1,4 +1,4 @@
-use Rattle.std.proofs.Common.{◌≡◌, ℕ, ◌+◌, length, Some, slice_get, sym, ap, subst, ◌∙◌, arith}
+use Rattle.std.proofs.Common.{◌≡◌, ℕ, ◌+◌, ◌<◌, length, map, Some, slice_get, sym, ap, subst, ◌∙◌, arith}
 use Rattle.serial_pager.specs.Seen.{StripeSeen}
 use Rattle.serial_pager.specs.Sound.{seen_of, IsSound, Flushes, SomeRose}
 use Rattle.serial_pager.proofs.Flushed.{same, sound_after, held_after, owes_after, counts_after, tried_after, failed_after, stored_after}
@@ -33,9 +33,9 @@ invariant_of-self g c =
     let shapes : q.shapes ≡ p.shapes = ap (λ k. k.shapes.items) e.config.1 ∙ ap (λ v. v.shapes) old in
     let size : q.page_size ≡ p.page_size = ap (λ k. k.layout.page_size) e.config.1 ∙ ap (λ v. v.page_size) old in
     let spent : p.spent + 64 ≡ q.spent = ap (λ v. v.spent + 64) (sym old) in
-    let flushed : (s : ℕ) (x y : StripeSeen _) → slice_get p.stripes s ≡ Some x → slice_get q.stripes s ≡ Some y → Flushes g.J.Journal.has_noted x y = λ s x y a b. e.flushed s x y (ap (λ v. slice_get v.stripes s) old ∙ a) b in
+    let flushed : (s : ℕ) (x y : StripeSeen _) → slice_get p.stripes s ≡ Some x → slice_get q.stripes s ≡ Some y → Flushes x y = λ s x y a b. e.flushed s x y (ap (λ v. slice_get v.stripes s) old ∙ a) b in
     let v = c.self.invariant in
-    (sound_after g.J.Journal.has_noted p q sound many shapes size flushed 0 spent (omega (arith, spent, c.requires)), e.count ∙ v.1 ∙ sym (ap (λ k. k.layout.stripes) e.config.1), v.2 ∙ sym (ap (λ k. k.layout.page_size) e.config.1), v.3, v.4, omega (arith, e.count, v.5), omega (arith, e.count, v.6))
+    (sound_after p q sound many shapes size flushed 0 spent (omega (arith, spent, c.requires)), e.count ∙ v.1 ∙ sym (ap (λ k. k.layout.stripes) e.config.1), v.2 ∙ sym (ap (λ k. k.layout.page_size) e.config.1), v.3, v.4, omega (arith, e.count, v.5), omega (arith, e.count, v.6))
 
 pub returns-clause-same : goal.returns-clause-same
 returns-clause-same g c =
@@ -49,8 +49,8 @@ returns-clause-same g c =
     let shapes : q.shapes ≡ p.shapes = ap (λ k. k.shapes.items) e.config.1 ∙ ap (λ v. v.shapes) old in
     let size : q.page_size ≡ p.page_size = ap (λ k. k.layout.page_size) e.config.1 ∙ ap (λ v. v.page_size) old in
     let spent : p.spent + 64 ≡ q.spent = ap (λ v. v.spent + 64) (sym old) in
-    let flushed : (s : ℕ) (x y : StripeSeen _) → slice_get p.stripes s ≡ Some x → slice_get q.stripes s ≡ Some y → Flushes g.J.Journal.has_noted x y = λ s x y a b. e.flushed s x y (ap (λ v. slice_get v.stripes s) old ∙ a) b in
-    same g.J.Journal.has_noted p q sound many shapes size flushed
+    let flushed : (s : ℕ) (x y : StripeSeen _) → slice_get p.stripes s ≡ Some x → slice_get q.stripes s ≡ Some y → Flushes x y = λ s x y a b. e.flushed s x y (ap (λ v. slice_get v.stripes s) old ∙ a) b in
+    same p q sound many shapes size flushed
 
 pub returns-clause-within : goal.returns-clause-within
 returns-clause-within g c =
@@ -64,8 +64,8 @@ returns-clause-within g c =
     let shapes : q.shapes ≡ p.shapes = ap (λ k. k.shapes.items) e.config.1 ∙ ap (λ v. v.shapes) old in
     let size : q.page_size ≡ p.page_size = ap (λ k. k.layout.page_size) e.config.1 ∙ ap (λ v. v.page_size) old in
     let spent : p.spent + 64 ≡ q.spent = ap (λ v. v.spent + 64) (sym old) in
-    let flushed : (s : ℕ) (x y : StripeSeen _) → slice_get p.stripes s ≡ Some x → slice_get q.stripes s ≡ Some y → Flushes g.J.Journal.has_noted x y = λ s x y a b. e.flushed s x y (ap (λ v. slice_get v.stripes s) old ∙ a) b in
-    within_of q (sound_after g.J.Journal.has_noted p q sound many shapes size flushed 0 spent (omega (arith, spent, c.requires))) c.service_knows.ensures.within
+    let flushed : (s : ℕ) (x y : StripeSeen _) → slice_get p.stripes s ≡ Some x → slice_get q.stripes s ≡ Some y → Flushes x y = λ s x y a b. e.flushed s x y (ap (λ v. slice_get v.stripes s) old ∙ a) b in
+    within_of q (sound_after p q sound many shapes size flushed 0 spent (omega (arith, spent, c.requires))) c.service_knows.ensures.within
 
 pub returns-clause-held : goal.returns-clause-held
 returns-clause-held g c =
@@ -79,23 +79,23 @@ returns-clause-held g c =
     let shapes : q.shapes ≡ p.shapes = ap (λ k. k.shapes.items) e.config.1 ∙ ap (λ v. v.shapes) old in
     let size : q.page_size ≡ p.page_size = ap (λ k. k.layout.page_size) e.config.1 ∙ ap (λ v. v.page_size) old in
     let spent : p.spent + 64 ≡ q.spent = ap (λ v. v.spent + 64) (sym old) in
-    let flushed : (s : ℕ) (x y : StripeSeen _) → slice_get p.stripes s ≡ Some x → slice_get q.stripes s ≡ Some y → Flushes g.J.Journal.has_noted x y = λ s x y a b. e.flushed s x y (ap (λ v. slice_get v.stripes s) old ∙ a) b in
-    held_after g.J.Journal.has_noted p q sound many shapes size flushed
+    let flushed : (s : ℕ) (x y : StripeSeen _) → slice_get p.stripes s ≡ Some x → slice_get q.stripes s ≡ Some y → Flushes x y = λ s x y a b. e.flushed s x y (ap (λ v. slice_get v.stripes s) old ∙ a) b in
+    held_after p q sound many shapes size flushed
 
 pub returns-clause-entries : goal.returns-clause-entries
 returns-clause-entries g c =
-    let p = c.args.self.now in
-    let ins = c.self.inside in
-    let sound = subst IsSound c.self.view_is c.self.invariant.0 in
-    let q = seen_of c.write_stripes.new.config c.write_stripes.new.stripes.items (ins.spent + 64) in
-    let e = c.write_stripes.ensures in
+    let e = c.write_stripes.ensures.entries in
     let old = c.self.view_is in
-    let many : length q.stripes ≡ length p.stripes = e.count ∙ ap (λ v. length v.stripes) old in
-    let shapes : q.shapes ≡ p.shapes = ap (λ k. k.shapes.items) e.config.1 ∙ ap (λ v. v.shapes) old in
-    let size : q.page_size ≡ p.page_size = ap (λ k. k.layout.page_size) e.config.1 ∙ ap (λ v. v.page_size) old in
-    let spent : p.spent + 64 ≡ q.spent = ap (λ v. v.spent + 64) (sym old) in
-    let flushed : (s : ℕ) (x y : StripeSeen _) → slice_get p.stripes s ≡ Some x → slice_get q.stripes s ≡ Some y → Flushes g.J.Journal.has_noted x y = λ s x y a b. e.flushed s x y (ap (λ v. slice_get v.stripes s) old ∙ a) b in
-    λ s x y was is. (flushed s x y was is).entries
+    record {
+      made = e.made;
+      went = λ s x y was is. e.went s x y (ap (λ v. slice_get v.stripes s) old ∙ was) is;
+      pass = e.pass;
+      some = λ failed. let d = e.some failed in (d.0, subst (λ v. d.0 < length v.stripes) old d.1, d.2);
+      none = e.none;
+    }
+
+pub returns-clause-made : goal.returns-clause-made
+returns-clause-made g c = c.write_stripes.ensures.made ∙ ap (λ v. map (λ x. g.J.Journal.made_with x.journal) v.stripes) c.self.view_is
 
 pub returns-clause-owes : goal.returns-clause-owes
 returns-clause-owes g c =
@@ -109,8 +109,8 @@ returns-clause-owes g c =
     let shapes : q.shapes ≡ p.shapes = ap (λ k. k.shapes.items) e.config.1 ∙ ap (λ v. v.shapes) old in
     let size : q.page_size ≡ p.page_size = ap (λ k. k.layout.page_size) e.config.1 ∙ ap (λ v. v.page_size) old in
     let spent : p.spent + 64 ≡ q.spent = ap (λ v. v.spent + 64) (sym old) in
-    let flushed : (s : ℕ) (x y : StripeSeen _) → slice_get p.stripes s ≡ Some x → slice_get q.stripes s ≡ Some y → Flushes g.J.Journal.has_noted x y = λ s x y a b. e.flushed s x y (ap (λ v. slice_get v.stripes s) old ∙ a) b in
-    owes_after g.J.Journal.has_noted p q sound many shapes size flushed
+    let flushed : (s : ℕ) (x y : StripeSeen _) → slice_get p.stripes s ≡ Some x → slice_get q.stripes s ≡ Some y → Flushes x y = λ s x y a b. e.flushed s x y (ap (λ v. slice_get v.stripes s) old ∙ a) b in
+    owes_after p q sound many shapes size flushed
 
 pub returns-clause-counts : goal.returns-clause-counts
 returns-clause-counts g c =
@@ -124,8 +124,8 @@ returns-clause-counts g c =
     let shapes : q.shapes ≡ p.shapes = ap (λ k. k.shapes.items) e.config.1 ∙ ap (λ v. v.shapes) old in
     let size : q.page_size ≡ p.page_size = ap (λ k. k.layout.page_size) e.config.1 ∙ ap (λ v. v.page_size) old in
     let spent : p.spent + 64 ≡ q.spent = ap (λ v. v.spent + 64) (sym old) in
-    let flushed : (s : ℕ) (x y : StripeSeen _) → slice_get p.stripes s ≡ Some x → slice_get q.stripes s ≡ Some y → Flushes g.J.Journal.has_noted x y = λ s x y a b. e.flushed s x y (ap (λ v. slice_get v.stripes s) old ∙ a) b in
-    counts_after g.J.Journal.has_noted p q sound many shapes size flushed
+    let flushed : (s : ℕ) (x y : StripeSeen _) → slice_get p.stripes s ≡ Some x → slice_get q.stripes s ≡ Some y → Flushes x y = λ s x y a b. e.flushed s x y (ap (λ v. slice_get v.stripes s) old ∙ a) b in
+    counts_after p q sound many shapes size flushed
 
 pub returns-clause-tried : goal.returns-clause-tried
 returns-clause-tried g c =
@@ -139,8 +139,8 @@ returns-clause-tried g c =
     let shapes : q.shapes ≡ p.shapes = ap (λ k. k.shapes.items) e.config.1 ∙ ap (λ v. v.shapes) old in
     let size : q.page_size ≡ p.page_size = ap (λ k. k.layout.page_size) e.config.1 ∙ ap (λ v. v.page_size) old in
     let spent : p.spent + 64 ≡ q.spent = ap (λ v. v.spent + 64) (sym old) in
-    let flushed : (s : ℕ) (x y : StripeSeen _) → slice_get p.stripes s ≡ Some x → slice_get q.stripes s ≡ Some y → Flushes g.J.Journal.has_noted x y = λ s x y a b. e.flushed s x y (ap (λ v. slice_get v.stripes s) old ∙ a) b in
-    tried_after g.J.Journal.has_noted p q sound many shapes size flushed
+    let flushed : (s : ℕ) (x y : StripeSeen _) → slice_get p.stripes s ≡ Some x → slice_get q.stripes s ≡ Some y → Flushes x y = λ s x y a b. e.flushed s x y (ap (λ v. slice_get v.stripes s) old ∙ a) b in
+    tried_after p q sound many shapes size flushed
 
 pub returns-clause-failed : goal.returns-clause-failed
 returns-clause-failed g c =
@@ -154,8 +154,8 @@ returns-clause-failed g c =
     let shapes : q.shapes ≡ p.shapes = ap (λ k. k.shapes.items) e.config.1 ∙ ap (λ v. v.shapes) old in
     let size : q.page_size ≡ p.page_size = ap (λ k. k.layout.page_size) e.config.1 ∙ ap (λ v. v.page_size) old in
     let spent : p.spent + 64 ≡ q.spent = ap (λ v. v.spent + 64) (sym old) in
-    let flushed : (s : ℕ) (x y : StripeSeen _) → slice_get p.stripes s ≡ Some x → slice_get q.stripes s ≡ Some y → Flushes g.J.Journal.has_noted x y = λ s x y a b. e.flushed s x y (ap (λ v. slice_get v.stripes s) old ∙ a) b in
-    λ failed. failed_after g.J.Journal.has_noted p q sound many shapes size flushed (subst (λ xs. SomeRose xs q.stripes) (ap (λ v. v.stripes) old) (e.failed failed))
+    let flushed : (s : ℕ) (x y : StripeSeen _) → slice_get p.stripes s ≡ Some x → slice_get q.stripes s ≡ Some y → Flushes x y = λ s x y a b. e.flushed s x y (ap (λ v. slice_get v.stripes s) old ∙ a) b in
+    λ failed. failed_after p q sound many shapes size flushed (subst (λ xs. SomeRose xs q.stripes) (ap (λ v. v.stripes) old) (e.failed failed))
 
 pub returns-clause-stored : goal.returns-clause-stored
 returns-clause-stored g c =
@@ -169,5 +169,5 @@ returns-clause-stored g c =
     let shapes : q.shapes ≡ p.shapes = ap (λ k. k.shapes.items) e.config.1 ∙ ap (λ v. v.shapes) old in
     let size : q.page_size ≡ p.page_size = ap (λ k. k.layout.page_size) e.config.1 ∙ ap (λ v. v.page_size) old in
     let spent : p.spent + 64 ≡ q.spent = ap (λ v. v.spent + 64) (sym old) in
-    let flushed : (s : ℕ) (x y : StripeSeen _) → slice_get p.stripes s ≡ Some x → slice_get q.stripes s ≡ Some y → Flushes g.J.Journal.has_noted x y = λ s x y a b. e.flushed s x y (ap (λ v. slice_get v.stripes s) old ∙ a) b in
-    λ no. stored_after g.J.Journal.has_noted p q sound many shapes size flushed (e.stored no)
+    let flushed : (s : ℕ) (x y : StripeSeen _) → slice_get p.stripes s ≡ Some x → slice_get q.stripes s ≡ Some y → Flushes x y = λ s x y a b. e.flushed s x y (ap (λ v. slice_get v.stripes s) old ∙ a) b in
+    λ no. stored_after p q sound many shapes size flushed (e.stored no)

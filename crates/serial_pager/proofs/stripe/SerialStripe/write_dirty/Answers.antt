@@ -1,4 +1,5 @@
 use Rattle.std.proofs.Common.{Some, ap, arith, false, inl, inr, length, slice_get, subst, sym, true, ◌+◌, ◌∙◌, ◌<◌, ◌≡◌}
+use Rattle.serial_pager.specs.Writings.{WroteBack}
 use Rattle.serial_pager.proofs.Flushes.{TriedAll, TriedRegion, all_failed, all_well, flushes_hold, room_for_next, stored}
 use Rattle.serial_pager.proofs.stripe.SerialStripe.write_dirty.Goals.{then-write_region, else-write_region}
 use Rattle.serial_pager.proofs.stripe.SerialStripe.write_dirty.Goals as goal
@@ -18,7 +19,7 @@ loop-region-preserved g c =
       | then-write_region w ↦
           let one : TriedRegion g.J.Journal.has_noted c.loop-region.region shape.pages true c.loop-region.self c.write_region.new.self = record {
             rest = d.rest;
-            went = d.went;
+            went = subst (λ f. WroteBack g.J.Journal.has_noted f c.loop-region.self c.write_region.new.self) w.if-write_region.true d.went;
             owes = d.owes;
             counts = d.counts;
             stays_clean = d.clean;
@@ -34,7 +35,7 @@ loop-region-preserved g c =
       | else-write_region w ↦
           let one : TriedRegion g.J.Journal.has_noted c.loop-region.region shape.pages false c.loop-region.self c.write_region.new.self = record {
             rest = d.rest;
-            went = d.went;
+            went = subst (λ f. WroteBack g.J.Journal.has_noted f c.loop-region.self c.write_region.new.self) w.if-write_region.false d.went;
             owes = d.owes;
             counts = d.counts;
             stays_clean = d.clean;
@@ -50,7 +51,7 @@ loop-region-preserved g c =
     ]
 
 pub returns-clause-held : goal.returns-clause-held
-returns-clause-held g c = flushes_hold g.J.Journal.has_noted c.args.self.now c.loop-region.self c.requires.rest c.loop-region.invariant.tried.rest c.loop-region.invariant.tried.went
+returns-clause-held g c = flushes_hold g.J.Journal.has_noted c.loop-region.failed c.args.self.now c.loop-region.self c.requires.rest c.loop-region.invariant.tried.rest c.loop-region.invariant.tried.went
 
 pub returns-clause-owes : goal.returns-clause-owes
 returns-clause-owes g c = c.loop-region.invariant.tried.owes

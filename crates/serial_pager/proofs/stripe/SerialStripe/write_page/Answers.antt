@@ -1,6 +1,7 @@
-use Rattle.std.proofs.Common.{sym, ◌∙◌}
+use Rattle.std.proofs.Common.{subst, sym, ◌∙◌}
 use Rattle.page_model.proofs.Prefixes.{page_region}
-use Rattle.serial_pager.proofs.Flushes.{page_clean, page_failed, page_owes, page_written}
+use Rattle.serial_pager.specs.Writings.{WroteBack}
+use Rattle.serial_pager.proofs.Flushes.{page_back, page_clean, page_failed, page_owes, page_written}
 use Rattle.serial_pager.proofs.stripe.SerialStripe.write_page.Goals as goal
 
 pub returns-then-is_dirty-clause-clean : goal.returns-then-is_dirty-clause-clean
@@ -15,3 +16,8 @@ returns-then-is_dirty-clause-failed g c = λ e.
 
 pub returns-then-is_dirty-clause-written : goal.returns-then-is_dirty-clause-written
 returns-then-is_dirty-clause-written g c = λ e. page_written c.args.self.now.core c.write_out.new.self.core c.args.key c.write_out.result c.write_out.ensures.steps (sym c.is_err.ensures.value ∙ e)
+
+pub returns-then-is_dirty-clause-went : goal.returns-then-is_dirty-clause-went
+returns-then-is_dirty-clause-went g c =
+    subst (λ failed. WroteBack g.J.Journal.has_noted failed c.args.self.now c.write_out.new.self) (sym c.is_err.ensures.value)
+    (page_back g.J.Journal.has_noted c.args.key c.args.self.now c.write_out.new.self c.write_out.result c.write_out.ensures.went c.write_out.ensures.ends)

@@ -1,6 +1,7 @@
 use Rattle.std.proofs.Common.{ap, false, subst, sym, true, ◌+◌, ◌∙◌, ◌≡◌, ◌≢◌}
 use Rattle.page_base.specs.Pages.{stripe_of}
 use Rattle.page_model.specs.Setups.{Setup, has_page}
+use Rattle.serial_pager.specs.Writings.{WroteBack}
 use Rattle.serial_pager.proofs.Flushes.{Tried, TriedOne, page_of_other, tried_failed, tried_other, tried_well}
 use Rattle.serial_pager.proofs.stripe.SerialStripe.write_region.Goals.{then-stripe-config+then-write_page, else-stripe-config, else-stripe-config-via-then-stripe-config+else-write_page, else-stripe-config-via-else-stripe-config}
 use Rattle.serial_pager.proofs.stripe.SerialStripe.write_region.Goals as goal
@@ -11,7 +12,7 @@ loop-page-preserved g c = elim c.if-stripe-config.branch [
       let d = w.write_page.ensures in
       let one : TriedOne g.J.Journal.has_noted (record { region = c.args.region; page = c.loop-page.page }) true c.loop-page.self w.write_page.new.self = record {
         rest = d.rest;
-        went = d.went;
+        went = subst (λ f. WroteBack g.J.Journal.has_noted f c.loop-page.self w.write_page.new.self) w.if-write_page.true d.went;
         owes = d.owes;
         counts = d.counts;
         stays_clean = d.clean;
@@ -30,7 +31,7 @@ loop-page-preserved g c = elim c.if-stripe-config.branch [
         let d = v.write_page.ensures in
         let one : TriedOne g.J.Journal.has_noted (record { region = c.args.region; page = c.loop-page.page }) false c.loop-page.self v.write_page.new.self = record {
           rest = d.rest;
-          went = d.went;
+          went = subst (λ f. WroteBack g.J.Journal.has_noted f c.loop-page.self v.write_page.new.self) v.if-write_page.false d.went;
           owes = d.owes;
           counts = d.counts;
           stays_clean = d.clean;
