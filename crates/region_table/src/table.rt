@@ -111,6 +111,7 @@ impl RegionTable {
     pub fn count(&self) -> u16
         ensures count { result ≡ length self.now.regions }
         ensures few { result ≤ 64 }
+        ensures few_of_all { page_count self.now ≤ 1048576 }
         ensures rules { keeps_rules self.now.page_size [] self.now.regions ≡ true }
     {
         self.regions.len() as u16
