@@ -1,6 +1,7 @@
 pub mod Serial
 pub mod Contents
 pub mod Fits
+pub mod Tables
 pub mod Zeros
 pub mod Streams
 pub mod Rooms

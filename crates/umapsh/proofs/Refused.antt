@@ -15,7 +15,8 @@ use Rattle.workload_text.specs.declared.refusal.TextFault.TheVariants as text
 use Rattle.workload_text.proofs.Complete.{text_complete, one_reading}
 use Rattle.workload_text.proofs.Refused.{refused_at}
 use Rattle.region_table.specs.Regions.{RegionSeen}
-use Rattle.umapsh.specs.Regions.{region_seen, regions_seen, region_refusal}
+use Rattle.script_run.specs.Tables.{regions_seen}
+use Rattle.umapsh.specs.Regions.{region_seen, region_refusal}
 use Rattle.umapsh.specs.Inputs.{refusal_of, refused_behind, refused_text}
 use Rattle.umapsh.specs.Top.{RunStop, text_status}
 use Rattle.umapsh.specs.declared.refusal.RegionRefusal.{RegionRefusal}

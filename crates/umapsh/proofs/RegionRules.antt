@@ -18,7 +18,8 @@ use Rattle.workload_text.specs.declared.workload.Command.TheVariants.{Load, Stor
 use Rattle.workload_text.specs.declared.workload.Script.{Script}
 use Rattle.workload_text.specs.declared.workload.Workload.{Workload}
 use Rattle.script_run.specs.Fits.{has_whole_pages}
-use Rattle.umapsh.specs.Regions.{region_seen, regions_seen, rule, or_behind, region_refusal}
+use Rattle.script_run.specs.Tables.{regions_seen}
+use Rattle.umapsh.specs.Regions.{region_seen, rule, or_behind, region_refusal}
 use Rattle.umapsh.specs.declared.refusal.RegionKind.{RegionKind}
 use Rattle.umapsh.specs.declared.refusal.RegionRefusal.{RegionRefusal}
 

@@ -4,7 +4,6 @@ use Rattle.region_table.specs.Regions.{RegionSeen}
 use Rattle.region_table.specs.Rules.{region_fault}
 use Rattle.region_table.specs.declared.spec.RegionFault.{RegionFault}
 use Rattle.region_table.specs.declared.spec.RegionFault.TheVariants as fault
-use Rattle.workload_text.specs.Line.{Line, map_line}
 use Rattle.workload_text.specs.View.{backing_of}
 use Rattle.workload_text.specs.declared.workload.MapLine.{MapLine}
 use Rattle.umapsh.specs.declared.refusal.RegionKind.{RegionKind}
@@ -14,12 +13,6 @@ use Rattle.umapsh.specs.declared.refusal.RegionRefusal.{RegionRefusal}
 -- a region of a workload, as the table of regions sees it
 abbrev pub region_seen : MapLine → RegionSeen
 region_seen m = record { name = m.name.items; backing = backing_of m.kind; size = m.length; writable = m.writable }
-
--- the regions of the `map` lines, in order
-abbrev pub regions_seen : List Line → List RegionSeen
-regions_seen [] = []
-regions_seen (map_line name backing size writable ∷ ls) = record { name = name; backing = backing; size = size; writable = writable } ∷ regions_seen ls
-regions_seen (l ∷ ls) = regions_seen ls
 
 -- the rule that a fault of the table of regions is; want of memory is none
 abbrev pub rule : Option RegionFault → Option RegionKind
