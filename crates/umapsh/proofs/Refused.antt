@@ -16,10 +16,12 @@ use Rattle.workload_text.proofs.Complete.{text_complete, one_reading}
 use Rattle.workload_text.proofs.Refused.{refused_at}
 use Rattle.region_table.specs.Regions.{RegionSeen}
 use Rattle.script_run.specs.Tables.{regions_seen}
-use Rattle.umapsh.specs.Regions.{region_seen, region_refusal}
+use Rattle.umapsh.specs.Regions.{region_seen, region_refusal, IfRegionRefused}
 use Rattle.umapsh.specs.Inputs.{refusal_of, refused_behind, refused_text}
-use Rattle.umapsh.specs.Top.{RunStop, text_status}
+use Rattle.umapsh.specs.Top.{RunStop, text_status, region_status}
 use Rattle.umapsh.specs.declared.refusal.RegionRefusal.{RegionRefusal}
+use Rattle.umapsh.specs.declared.refusal.TableFault.{TableFault}
+use Rattle.umapsh.specs.declared.refusal.TableFault.TheVariants as table
 use Rattle.umapsh.specs.declared.refusal.Refusal.TheVariants as why
 use Rattle.umapsh.proofs.RegionRules.{seen_are, same_count}
 
@@ -39,9 +41,9 @@ unfolding refusal_of read_text
 long_refused bytes long = rw (lt-leb (length bytes) 16777216 long) refl
 
 -- what the regions of a workload are refused for, by the call that was made
-pub same_call : (z : ℕ) (ms slice : List MapLine) (ns lines : List ℕ) (o : Option RegionRefusal) → z ≡ 4096 → slice ≡ ms → lines ≡ ns → o ≡ region_refusal z [] (map region_seen slice) lines → region_refusal 4096 [] (map region_seen ms) ns ≡ o
-same_call z ms slice ns lines o e f g h =
-    sym (h ∙ ap (λ (k : ℕ). region_refusal k [] (map region_seen slice) lines) e
+pub same_call : (z : ℕ) (ms slice : List MapLine) (ns lines : List ℕ) → z ≡ 4096 → slice ≡ ms → lines ≡ ns → region_refusal 4096 [] (map region_seen ms) ns ≡ region_refusal z [] (map region_seen slice) lines
+same_call z ms slice ns lines e f g =
+    sym (ap (λ (k : ℕ). region_refusal k [] (map region_seen slice) lines) e
     ∙ ap (λ (xs : List MapLine). region_refusal 4096 [] (map region_seen xs) lines) f
     ∙ ap (λ (xs : List ℕ). region_refusal 4096 [] (map region_seen ms) xs) g)
 
@@ -70,8 +72,12 @@ module _ (bytes : List ℕ) (w : Workload) (numbers : List ℕ) (spelt : Spells 
       ∙ ap (λ (ls : List Line). refused_behind (region_refusal 4096 [] (map region_seen w.maps.items) numbers) (is_built ls)) spelt.lines_are
 
   -- a region breaks a rule
-  pub region_refused : (r : RegionRefusal) → region_refusal 4096 [] (map region_seen w.maps.items) numbers ≡ Some r → refusal_of bytes ≡ Some (record { line = r.line; kind = why.Region r.kind })
+  region_refused : (r : RegionRefusal) → region_refusal 4096 [] (map region_seen w.maps.items) numbers ≡ Some r → refusal_of bytes ≡ Some (record { line = r.line; kind = why.Region r.kind })
   region_refused r h = refusal_is ∙ ap (λ (o : Option RegionRefusal). refused_behind o (is_built (lines_of w))) h
+
+  pub region_stops : (fault : TableFault) (o : Option RegionRefusal) → region_refusal 4096 [] (map region_seen w.maps.items) numbers ≡ o → IfRegionRefused fault (λ r. o ≡ Some r) → RunStop (region_status fault) bytes
+  region_stops (table.Refused r) o same h = region_refused r (same ∙ h)
+  region_stops table.OutOfMemory o same h = tt
 
   -- none does, and the workload isn't built
   pub unbuilt_refused : region_refusal 4096 [] (map region_seen w.maps.items) numbers ≡ None → is_built (lines_of w) ≡ false → refusal_of bytes ≡ Some (record { line = 0; kind = why.Unbuilt })

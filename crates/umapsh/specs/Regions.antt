@@ -9,6 +9,8 @@ use Rattle.workload_text.specs.declared.workload.MapLine.{MapLine}
 use Rattle.umapsh.specs.declared.refusal.RegionKind.{RegionKind}
 use Rattle.umapsh.specs.declared.refusal.RegionKind.TheVariants as kind
 use Rattle.umapsh.specs.declared.refusal.RegionRefusal.{RegionRefusal}
+use Rattle.umapsh.specs.declared.refusal.TableFault.{TableFault}
+use Rattle.umapsh.specs.declared.refusal.TableFault.TheVariants.{Refused, OutOfMemory}
 
 -- a region of a workload, as the table of regions sees it
 abbrev pub region_seen : MapLine → RegionSeen
@@ -33,3 +35,8 @@ abbrev pub region_refusal : (page_size : ℕ) (before regions : List RegionSeen)
 region_refusal page_size before (r ∷ rs) (n ∷ ns) =
     or_behind n (rule (region_fault (record { page_size = page_size; regions = before }) r)) (region_refusal page_size (before ++ r ∷ []) rs ns)
 region_refusal page_size before rs ns = None
+
+-- what holds of a refusal, where the fault is one; want of memory is none
+abbrev pub IfRegionRefused : TableFault → (RegionRefusal → Type 0) → Type 0
+IfRegionRefused (Refused r) P = P r
+IfRegionRefused OutOfMemory P = Unit {0}

@@ -9,6 +9,8 @@ use Rattle.script_run.specs.Streams.{AppendsFront}
 use Rattle.umapsh.specs.Inputs.{refusal_of}
 use Rattle.workload_text.specs.declared.refusal.TextFault.{TextFault}
 use Rattle.workload_text.specs.declared.refusal.TextFault.TheVariants as text
+use Rattle.umapsh.specs.declared.refusal.TableFault.{TableFault}
+use Rattle.umapsh.specs.declared.refusal.TableFault.TheVariants as table
 use Rattle.umapsh.specs.declared.refusal.Refusal.TheVariants as why
 use Rattle.umapsh.specs.declared.status.Status.{Status}
 use Rattle.umapsh.specs.declared.status.Status.TheVariants.{Done, Refused, Words, Memory, SinkFault, SourceFault}
@@ -67,6 +69,11 @@ ReadStop (SinkFault faults) before now = ⊥
 abbrev pub text_status : TextFault → Status
 text_status (text.Refused line k) = Refused line (why.Text k)
 text_status text.OutOfMemory = Memory
+
+-- the status of a fault of the regions
+abbrev pub region_status : TableFault → Status
+region_status (table.Refused r) = Refused r.line (why.Region r.kind)
+region_status table.OutOfMemory = Memory
 
 -- why running a text stopped
 abbrev pub RunStop : Status → List ℕ → Type 0

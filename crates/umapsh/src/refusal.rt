@@ -1,5 +1,9 @@
 //! Why an input is refused: its text is no workload, its regions break a rule, or it can't be run yet.
 
+ghost use Rattle.std.specs.Prelude.{◌≡◌};
+ghost use Rattle.umapsh.specs.declared.refusal.TableFault.TheVariants as fault;
+
+use page_base::OutOfMemory;
 use workload_text::TextKind;
 
 /// The rules on regions, in the order in which they are tested.
@@ -29,4 +33,19 @@ pub enum Refusal {
 pub struct RegionRefusal {
     pub line: u32,
     pub kind: RegionKind,
+}
+
+/// Why regions make no table.
+#[derive(Clone, Copy, Debug)]
+pub enum TableFault {
+    Refused(RegionRefusal),
+    OutOfMemory,
+}
+
+impl From<OutOfMemory> for TableFault {
+    ghost from_gives = { λ _ e. e ≡ fault.OutOfMemory };
+
+    fn from(_: OutOfMemory) -> TableFault {
+        TableFault::OutOfMemory
+    }
 }

@@ -2,13 +2,13 @@
 //!
 //! The table of regions knows the rules; here the regions of a workload are put into one, and the first that it refuses is
 //! named by its line.
-ghost use Rattle.std.specs.Prelude.{◌≡◌, ◌≤◌, true, [], map, length, IfOk, Some};
+ghost use Rattle.std.specs.Prelude.{◌≡◌, ◌≤◌, true, [], map, length, IfOk, OnOk, IfErr, Some, None};
 ghost use Rattle.page_base.specs.Layouts.{is_page_size};
 ghost use Rattle.region_table.specs.Regions.{seen_of, backing_of};
 ghost use Rattle.workload_text.specs.View.{backing_of as backing_of_line};
-ghost use Rattle.umapsh.specs.Regions.{region_seen, rule, region_refusal};
+ghost use Rattle.umapsh.specs.Regions.{region_seen, rule, region_refusal, IfRegionRefused};
 
-use crate::refusal::{RegionKind, RegionRefusal};
+use crate::refusal::{RegionKind, RegionRefusal, TableFault};
 use page_base::{Bytes, OutOfMemory};
 use region_table::{Kind, RegionFault, RegionSpec, RegionTable};
 use std::alloc::Global;
@@ -55,17 +55,20 @@ fn rule(fault: RegionFault) -> Option<RegionKind>
     }
 }
 
-/// The first region that breaks a rule behind those before it, if one does. `lines` are the lines that the regions stand on.
-pub fn region_refusal(
+/// The table of the regions of these `map` lines, or the first region that breaks a rule behind those before it. `lines` are
+/// the lines that the regions stand on.
+pub fn table_of_maps(
     alloc: Global,
     page_size: u32,
     maps: &[MapLine],
     lines: &[u32],
-) -> Result<Option<RegionRefusal>, OutOfMemory>
+) -> Result<RegionTable, TableFault>
     requires page_size { is_page_size page_size ≡ true }
     requires few { length maps.now ≤ 64 }
     requires as_many { length lines.now ≡ length maps.now }
-    ensures { IfOk result (λ r. r ≡ region_refusal page_size [] (map region_seen maps.now) lines.now) }
+    ensures table { IfOk result (λ t. t ≡ record { page_size = page_size; regions = map region_seen maps.now }) }
+    ensures accepted { OnOk result (region_refusal page_size [] (map region_seen maps.now) lines.now ≡ None) }
+    ensures refused { IfErr result (λ f. IfRegionRefused f (λ r. region_refusal page_size [] (map region_seen maps.now) lines.now ≡ Some r)) }
 {
     let mut table = RegionTable::new(alloc, page_size)?;
     for i in 0..maps.len() {
@@ -74,14 +77,14 @@ pub fn region_refusal(
             Ok(_) => {}
             Err(fault) => {
                 return match rule(fault) {
-                    Some(kind) => Ok(Some(RegionRefusal {
+                    Some(kind) => Err(TableFault::Refused(RegionRefusal {
                         line: lines[i],
                         kind,
                     })),
-                    None => Err(OutOfMemory),
+                    None => Err(TableFault::OutOfMemory),
                 };
             }
         }
     }
-    Ok(None)
+    Ok(table)
 }

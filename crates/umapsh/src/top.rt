@@ -7,15 +7,17 @@ ghost use Rattle.workload_text.specs.View.{lines_of};
 ghost use Rattle.workload_text.specs.Accepted.{IsRunnable, regions_of};
 ghost use Rattle.workload_text.specs.Built.{is_built};
 ghost use Rattle.script_run.specs.Fits.{has_whole_pages};
+ghost use Rattle.script_run.specs.Tables.{table_of};
 ghost use Rattle.umapsh.specs.Status.{refused_words};
 ghost use Rattle.umapsh.specs.Words.{words_fault};
-ghost use Rattle.umapsh.specs.Top.{Accepts, answer_of, text_status, Says, Causes, ReadAll, ReadsFew, ReadStop, RunStop};
+ghost use Rattle.umapsh.specs.Top.{Accepts, answer_of, text_status, region_status, Says, Causes, ReadAll, ReadsFew, ReadStop, RunStop};
 
-use crate::refusal::Refusal;
-use crate::regions::region_refusal;
+use crate::refusal::{Refusal, TableFault};
+use crate::regions::table_of_maps;
 use crate::status::Status;
 use crate::words::{self, Call};
-use page_base::{Bytes, Layout, OutOfMemory};
+use page_base::{Bytes, Layout};
+use region_table::RegionTable;
 use script_run::{Settings, Sink, Source, memory_lanes, serial};
 use std::alloc::{AllocError, Global};
 use workload_text::{TextFault, Workload, is_built, parse};
@@ -86,13 +88,33 @@ fn text_status(fault: TextFault) -> Status
     }
 }
 
+fn region_status(fault: TableFault) -> Status
+    ensures { result ≡ region_status fault }
+{
+    match fault {
+        TableFault::Refused(refusal) => Status::Refused {
+            line: refusal.line,
+            kind: Refusal::Region(refusal.kind),
+        },
+        TableFault::OutOfMemory => Status::Memory,
+    }
+}
+
+/// What an input gives that isn't refused: a workload, and the table of its regions.
+#[derive(Drop)]
+struct Accepted {
+    workload: Workload,
+    table: RegionTable,
+}
+
 /// The workload of an input, if it isn't refused: by its text, by the rules on regions, or because it isn't built yet.
-fn accept(alloc: Global, layout: Layout, bytes: &[u8]) -> Result<Workload, Status>
+fn accept(alloc: Global, layout: Layout, bytes: &[u8]) -> Result<Accepted, Status>
     requires page_size { layout.page_size ≡ 4096 }
-    ensures accepted { IfOk result (λ w. Accepts bytes.now (lines_of w)) }
-    ensures runnable { IfOk result (λ w. IsRunnable (lines_of w)) }
-    ensures built { IfOk result (λ w. is_built (lines_of w) ≡ true) }
-    ensures whole { IfOk result (λ w. has_whole_pages layout.page_size (regions_of (lines_of w)) ≡ true) }
+    ensures accepted { IfOk result (λ a. Accepts bytes.now (lines_of a.workload)) }
+    ensures runnable { IfOk result (λ a. IsRunnable (lines_of a.workload)) }
+    ensures built { IfOk result (λ a. is_built (lines_of a.workload) ≡ true) }
+    ensures table { IfOk result (λ a. a.table ≡ table_of layout.page_size (lines_of a.workload)) }
+    ensures whole { IfOk result (λ a. has_whole_pages layout.page_size (regions_of (lines_of a.workload)) ≡ true) }
     ensures stop { IfErr result (λ e. RunStop e bytes.now) }
 {
     let parsed = match parse(alloc, bytes) {
@@ -102,23 +124,17 @@ fn accept(alloc: Global, layout: Layout, bytes: &[u8]) -> Result<Workload, Statu
     let workload = parsed.workload;
     let maps = workload.maps.as_slice();
     let lines = parsed.map_lines.as_slice();
-    match region_refusal(alloc, layout.page_size(), maps, lines) {
-        Ok(None) => {}
-        Ok(Some(refusal)) => {
-            return Err(Status::Refused {
-                line: refusal.line,
-                kind: Refusal::Region(refusal.kind),
-            });
-        }
-        Err(OutOfMemory) => return Err(Status::Memory),
-    }
+    let table = match table_of_maps(alloc, layout.page_size(), maps, lines) {
+        Ok(table) => table,
+        Err(fault) => return Err(region_status(fault)),
+    };
     if !is_built(&workload) {
         return Err(Status::Refused {
             line: 0,
             kind: Refusal::Unbuilt,
         });
     }
-    Ok(workload)
+    Ok(Accepted { workload, table })
 }
 
 /// The replies to a text. The settings are the defaults.
@@ -127,14 +143,14 @@ fn run(alloc: Global, bytes: &[u8]) -> Result<Bytes, Status>
     ensures stop { IfErr result (λ e. RunStop e bytes.now) }
 {
     let settings = Settings::defaults();
-    let workload = match accept(alloc, settings.layout, bytes) {
-        Ok(workload) => workload,
+    let accepted = match accept(alloc, settings.layout, bytes) {
+        Ok(accepted) => accepted,
         Err(status) => return Err(status),
     };
-    let Ok(lanes) = memory_lanes(alloc, &settings, &workload) else {
+    let Ok(lanes) = memory_lanes(alloc, &settings, &accepted.workload) else {
         return Err(Status::Memory);
     };
-    match serial(alloc, &settings, &workload, lanes) {
+    match serial(alloc, &settings, &accepted.workload, lanes) {
         Ok(end) => Ok(end.text),
         Err(_) => Err(Status::Memory),
     }

@@ -1,4 +1,4 @@
-use Rattle.std.proofs.Common.{◌≡◌, ℕ, true, List, [], length, map, Some, None, sym, ap, subst, ◌∙◌, arith}
+use Rattle.std.proofs.Common.{◌≡◌, ℕ, true, List, [], length, sym, ap, subst, ◌∙◌, arith}
 use Rattle.std.proofs.lemmas.List.{length-map}
 use Rattle.workload_text.specs.Grammar.{Region}
 use Rattle.workload_text.specs.Accepted.{regions_of}
@@ -7,60 +7,56 @@ use Rattle.workload_text.specs.declared.workload.MapLine.{MapLine}
 use Rattle.workload_text.specs.declared.workload.Parsed.{Parsed}
 use Rattle.script_run.specs.Fits.{has_whole_pages}
 use Rattle.script_run.proofs.Zeros.{regions_are}
-use Rattle.umapsh.specs.Regions.{region_seen, region_refusal}
-use Rattle.umapsh.proofs.RegionRules.{whole_pages}
-use Rattle.umapsh.proofs.Refused.{text_stops, same_call, as_many, region_refused, unbuilt_refused, unrefused}
+use Rattle.umapsh.specs.Regions.{region_seen}
+use Rattle.umapsh.proofs.RegionRules.{table_is, whole_pages}
+use Rattle.umapsh.proofs.Refused.{text_stops, same_call, as_many, region_stops, unbuilt_refused, unrefused}
 use Rattle.umapsh.proofs.top.accept.Goals as goal
 
 pub returns-in-Err-clause-stop : goal.returns-in-Err-clause-stop
 returns-in-Err-clause-stop c = rw c.text_status.ensures (text_stops Parsed c.in-Err.fault c.args.bytes.now c.in-Err.ensures.refused)
 
-pub region_refusal-requires-clause-few : goal.region_refusal-requires-clause-few
-region_refusal-requires-clause-few c =
+pub table_of_maps-requires-clause-few : goal.table_of_maps-requires-clause-few
+table_of_maps-requires-clause-few c =
     let w = c.in-Ok.parsed.workload in
     omega (arith, c.in-Ok.ensures.runnable.regions, ap length (regions_are w), length-map w.maps.items region, ap (length {A = MapLine}) c.as_slice-maps.ensures)
 
-pub region_refusal-requires-clause-as_many : goal.region_refusal-requires-clause-as_many
-region_refusal-requires-clause-as_many c =
+pub table_of_maps-requires-clause-as_many : goal.table_of_maps-requires-clause-as_many
+table_of_maps-requires-clause-as_many c =
     let p = c.in-Ok.parsed in
     ap (length {A = ℕ}) c.as_slice-lines.ensures
     ∙ as_many c.args.bytes.now p.workload p.map_lines.items c.in-Ok.ensures.spelt c.in-Ok.ensures.numbered
     ∙ length-map p.workload.maps.items region_seen
     ∙ sym (ap (length {A = MapLine}) c.as_slice-maps.ensures)
 
-pub returns-in-Ok-Some-clause-stop : goal.returns-in-Ok-Some-clause-stop
-returns-in-Ok-Some-clause-stop c =
+pub returns-in-Err-table_of_maps-clause-stop : goal.returns-in-Err-table_of_maps-clause-stop
+returns-in-Err-table_of_maps-clause-stop c =
     let p = c.in-Ok.parsed in
-    region_refused c.args.bytes.now p.workload p.map_lines.items c.in-Ok.ensures.spelt c.in-Ok.ensures.numbered c.in-Ok-Some.refusal
-    (same_call c.page_size.result p.workload.maps.items c.as_slice-maps.result.now p.map_lines.items c.as_slice-lines.result.now (Some c.in-Ok-Some.refusal)
-    (c.page_size.ensures ∙ c.requires.page_size) c.as_slice-maps.ensures c.as_slice-lines.ensures (rw c.in-Ok-Some.field-0-is at c.in-Ok-Some.ensures))
+    let same = same_call c.page_size.result p.workload.maps.items c.as_slice-maps.result.now p.map_lines.items c.as_slice-lines.result.now (c.page_size.ensures ∙ c.requires.page_size) c.as_slice-maps.ensures c.as_slice-lines.ensures in
+    rw c.region_status.ensures (region_stops c.args.bytes.now p.workload p.map_lines.items c.in-Ok.ensures.spelt c.in-Ok.ensures.numbered c.in-Err-table_of_maps.fault _ same c.in-Err-table_of_maps.ensures.refused)
 
 pub returns-then-not-is_built-clause-stop : goal.returns-then-not-is_built-clause-stop
 returns-then-not-is_built-clause-stop c =
     let p = c.in-Ok.parsed in
-    unbuilt_refused c.args.bytes.now p.workload p.map_lines.items c.in-Ok.ensures.spelt c.in-Ok.ensures.numbered
-    (same_call c.page_size.result p.workload.maps.items c.as_slice-maps.result.now p.map_lines.items c.as_slice-lines.result.now None
-    (c.page_size.ensures ∙ c.requires.page_size) c.as_slice-maps.ensures c.as_slice-lines.ensures (rw c.in-Ok-None.field-0-is at c.in-Ok-None.ensures))
-    (sym c.is_built.ensures ∙ c.if-not-is_built.true)
+    let same = same_call c.page_size.result p.workload.maps.items c.as_slice-maps.result.now p.map_lines.items c.as_slice-lines.result.now (c.page_size.ensures ∙ c.requires.page_size) c.as_slice-maps.ensures c.as_slice-lines.ensures in
+    unbuilt_refused c.args.bytes.now p.workload p.map_lines.items c.in-Ok.ensures.spelt c.in-Ok.ensures.numbered (same ∙ c.in-Ok-table_of_maps.ensures.accepted) (sym c.is_built.ensures ∙ c.if-not-is_built.true)
 
 pub returns-clause-accepted : goal.returns-clause-accepted
 returns-clause-accepted c =
     let p = c.in-Ok.parsed in
+    let same = same_call c.page_size.result p.workload.maps.items c.as_slice-maps.result.now p.map_lines.items c.as_slice-lines.result.now (c.page_size.ensures ∙ c.requires.page_size) c.as_slice-maps.ensures c.as_slice-lines.ensures in
     record {
       spelt = c.in-Ok.ensures.spelt;
-      unrefused = unrefused c.args.bytes.now p.workload p.map_lines.items c.in-Ok.ensures.spelt c.in-Ok.ensures.numbered
-          (same_call c.page_size.result p.workload.maps.items c.as_slice-maps.result.now p.map_lines.items c.as_slice-lines.result.now None
-          (c.page_size.ensures ∙ c.requires.page_size) c.as_slice-maps.ensures c.as_slice-lines.ensures (rw c.in-Ok-None.field-0-is at c.in-Ok-None.ensures))
-          (sym c.is_built.ensures ∙ c.if-not-is_built.false);
+      unrefused = unrefused c.args.bytes.now p.workload p.map_lines.items c.in-Ok.ensures.spelt c.in-Ok.ensures.numbered (same ∙ c.in-Ok-table_of_maps.ensures.accepted) (sym c.is_built.ensures ∙ c.if-not-is_built.false);
     }
+
+pub returns-clause-table : goal.returns-clause-table
+returns-clause-table c = table_is c.page_size.result c.args.layout.page_size c.as_slice-maps.result.now c.in-Ok.parsed.workload c.in-Ok-table_of_maps.table c.in-Ok-table_of_maps.ensures.table c.page_size.ensures c.as_slice-maps.ensures
 
 pub returns-clause-whole : goal.returns-clause-whole
 returns-clause-whole c =
     let p = c.in-Ok.parsed in
     let w = p.workload in
-    let none : region_refusal 4096 [] (map region_seen w.maps.items) p.map_lines.items ≡ None =
-    same_call c.page_size.result w.maps.items c.as_slice-maps.result.now p.map_lines.items c.as_slice-lines.result.now None
-    (c.page_size.ensures ∙ c.requires.page_size) c.as_slice-maps.ensures c.as_slice-lines.ensures (rw c.in-Ok-None.field-0-is at c.in-Ok-None.ensures) in
+    let same = same_call c.page_size.result w.maps.items c.as_slice-maps.result.now p.map_lines.items c.as_slice-lines.result.now (c.page_size.ensures ∙ c.requires.page_size) c.as_slice-maps.ensures c.as_slice-lines.ensures in
     let count : length p.map_lines.items ≡ length w.maps.items = as_many c.args.bytes.now w p.map_lines.items c.in-Ok.ensures.spelt c.in-Ok.ensures.numbered ∙ length-map w.maps.items region_seen in
     subst (λ (z : ℕ). has_whole_pages z (regions_of (lines_of w)) ≡ true) (sym c.requires.page_size)
-    (subst (λ (gs : List Region). has_whole_pages 4096 gs ≡ true) (sym (regions_are w)) (whole_pages 4096 [] w.maps.items p.map_lines.items count none))
+    (subst (λ (gs : List Region). has_whole_pages 4096 gs ≡ true) (sym (regions_are w)) (whole_pages 4096 [] w.maps.items p.map_lines.items count (same ∙ c.in-Ok-table_of_maps.ensures.accepted)))

@@ -1,4 +1,4 @@
-use Rattle.std.proofs.Common.{◌≡◌, sym, ap, ◌∙◌, arith}
+use Rattle.std.proofs.Common.{ap, ◌∙◌, arith}
 use Rattle.workload_text.specs.View.{lines_of}
 use Rattle.script_run.proofs.InMemory.{memory_text}
 use Rattle.script_run.proofs.Shapes.{few_of_large}
@@ -7,7 +7,7 @@ use Rattle.umapsh.proofs.top.run.Goals as goal
 
 pub serial-requires-clause-pages : goal.serial-requires-clause-pages
 serial-requires-clause-pages c =
-    let w = c.in-Ok.workload in
+    let w = c.in-Ok.accepted.workload in
     few_of_large w c.defaults-settings.result.layout.page_size c.in-Ok.ensures.runnable c.in-Ok.ensures.built (omega (arith, c.defaults-settings.ensures.page_size))
 
 pub serial-requires-clause-settings : goal.serial-requires-clause-settings
@@ -17,7 +17,7 @@ serial-requires-clause-settings c =
 
 pub returns-in-Ok-serial-clause-ok : goal.returns-in-Ok-serial-clause-ok
 returns-in-Ok-serial-clause-ok c =
-    let lines = lines_of c.in-Ok.workload in
+    let lines = lines_of c.in-Ok.accepted.workload in
     let end = c.in-Ok-serial.end in (
       lines,
       c.in-Ok.ensures.accepted,

@@ -3,11 +3,11 @@ use Rattle.std.proofs.lemmas.List.{get_or-map, length-map}
 use Rattle.region_table.specs.Regions.{RegionSeen, seen_of}
 use Rattle.umapsh.specs.Regions.{region_seen}
 use Rattle.umapsh.proofs.RegionRules.{rule_is, table_more, turn_kept, turn_broken}
-use Rattle.umapsh.proofs.regions.region_refusal.Goals as goal
-use Rattle.umapsh.proofs.regions.region_refusal.Goals.{in-Some, in-None}
+use Rattle.umapsh.proofs.regions.table_of_maps.Goals as goal
+use Rattle.umapsh.proofs.regions.table_of_maps.Goals.{in-Some, in-None}
 
-pub returns-in-Err : goal.returns-in-Err
-returns-in-Err c =
+pub returns-in-Err-clause-refused : goal.returns-in-Err-clause-refused
+returns-in-Err-clause-refused c =
     let ms = c.args.maps.now in
     let rs : List RegionSeen = map region_seen ms in
     let i = c.loop-i.i in
@@ -18,7 +18,7 @@ returns-in-Err c =
     elim c.match-rule.branch [
       | in-Some w ↦
           let broken = rule_is _ c.in-Err.fault w.in-Some.kind c.in-Err.ensures.refused (sym w.in-Some.ensures) in
-          rw w.result-is (sym (c.loop-i.invariant.rest ∙ turn_broken c.args.page_size rs c.args.lines.now i (get_or c.args.lines.now i 0) r c.loop-i.table there here (omega (arith, c.requires.as_many)) refl c.loop-i.invariant.table w.in-Some.kind broken))
+          rw w.result-is (c.loop-i.invariant.rest ∙ turn_broken c.args.page_size rs c.args.lines.now i (get_or c.args.lines.now i 0) r c.loop-i.table there here (omega (arith, c.requires.as_many)) refl c.loop-i.invariant.table w.in-Some.kind broken)
       | in-None w ↦ rw w.result-is tt
     ]
 
