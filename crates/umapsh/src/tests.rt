@@ -45,7 +45,14 @@ fn answer(
 
 #[test]
 fn an_accepted_input_is_answered_whole(rt: HostRuntime) -> Result<(), Fail> {
-    for (input, replies) in [("", b"".as_slice()), (RUN, REPLIES)] {
+    for (input, replies) in [
+        ("", b"".as_slice()),
+        (RUN, REPLIES),
+        (
+            "map A memory 4096 rw\nscript s\nload A 4096 0\n",
+            b"script s\nload\n".as_slice(),
+        ),
+    ] {
         let (status, written) = answer(&rt, &["serial"], input, &[], &[])?;
         assert_eq!(rt; status, Status::Done, "{input}");
         assert_eq!(rt; written.as_slice(), replies, "{input}");
@@ -72,6 +79,11 @@ fn refused_inputs_are_named_by_line_and_kind(rt: HostRuntime) -> Result<(), Fail
     let rows = [
         ("load A 0 1\n", 1, Refusal::Text(TextKind::Order)),
         (
+            "map A memory 4096 rw\nscript s\nload A 4096 1\n",
+            3,
+            Refusal::Text(TextKind::Range),
+        ),
+        (
             "map A memory 4096 ro\nscript s\nstore A 0 01\n",
             3,
             Refusal::Text(TextKind::ReadOnly),
@@ -92,6 +104,11 @@ fn refused_inputs_are_named_by_line_and_kind(rt: HostRuntime) -> Result<(), Fail
             "map A file f 4096 rw\n\nmap A file f 64 rw\n",
             3,
             Refusal::Region(RegionKind::SameName),
+        ),
+        (
+            "map A file x 4096 rw\nmap B file x 4096 ro\n",
+            2,
+            Refusal::Region(RegionKind::SameStore),
         ),
         (
             "map A sparse d 4096 4096 rw\nmap B file d/f 64 rw\n",
@@ -118,6 +135,25 @@ fn refused_inputs_are_named_by_line_and_kind(rt: HostRuntime) -> Result<(), Fail
     for (input, line, kind) in rows {
         let (status, written) = answer(&rt, &["serial"], input, &[], &[])?;
         assert_eq!(rt; status, Status::Refused { line, kind }, "{input}");
+        assert!(rt; written.is_empty());
+    }
+    Ok(())
+}
+
+#[test]
+fn a_bad_third_line_is_named(rt: HostRuntime) -> Result<(), Fail> {
+    for (line, kind) in [
+        ("load A 00 1\n", TextKind::Number),
+        ("load A 0 1 \n", TextKind::Line),
+        ("load B 0 1\n", TextKind::Unknown),
+        ("store A 0 0G\n", TextKind::Hex),
+        ("script s\n", TextKind::Double),
+        ("flush", TextKind::Unended),
+    ] {
+        let input = format!(in rt.alloc(); "map A memory 4096 rw\nscript s\n{line}")?;
+        let (status, written) = answer(&rt, &["serial"], input.as_str(), &[], &[])?;
+        let kind = Refusal::Text(kind);
+        assert_eq!(rt; status, Status::Refused { line: 3, kind }, "{line}");
         assert!(rt; written.is_empty());
     }
     Ok(())
