@@ -91,7 +91,7 @@ fn a_text_is_refused_at_its_first_bad_line(rt: HostRuntime) -> Result<(), Fail> 
         ("map A file a/... 1 rw\n", None),
         ("load A-B 0 1\n", Some((1, TextKind::Order))),
         (
-            "map A sparse d 64 64 rw\nmap A file d/f 9 ro\nscript s\nstore A 0 00\n",
+            "map A sparse d 64 64 rw\nmap A file d/f 9 ro\nscript s\nstore A 63 00\n",
             None,
         ),
     ];
@@ -115,6 +115,7 @@ fn the_first_kind_decides(rt: HostRuntime) -> Result<(), Fail> {
         ("prefetch A 0 128\n", None),
         ("flush\nunmap A\n", None),
         ("flush", Some(TextKind::Unended)),
+        ("load A  0 1", Some(TextKind::Unended)),
         ("load A  0 1\n", Some(TextKind::Line)),
         ("load A 0 1 \n", Some(TextKind::Line)),
         ("load A 0\n", Some(TextKind::Line)),
@@ -135,6 +136,7 @@ fn the_first_kind_decides(rt: HostRuntime) -> Result<(), Fail> {
         ("store A 00 0G\n", Some(TextKind::Number)),
         ("store B 0 0G\n", Some(TextKind::Hex)),
         ("store A 0 abc\n", Some(TextKind::Hex)),
+        ("load B 00 1\n", Some(TextKind::Number)),
         ("load B 129 1\n", Some(TextKind::Unknown)),
         ("script s-\n", Some(TextKind::Name)),
         ("script s\n", Some(TextKind::Double)),
@@ -160,7 +162,7 @@ fn the_first_kind_decides(rt: HostRuntime) -> Result<(), Fail> {
 
 #[test]
 fn limits_hold_to_the_last_one(rt: HostRuntime) -> Result<(), Fail> {
-    let rows: [(&str, Pieces, Option<(u32, TextKind)>); 14] = [
+    let rows: [(&str, Pieces, Option<(u32, TextKind)>); 16] = [
         (
             "a name of 32 bytes",
             &[("map ", 1), ("n", 32), (" memory 64 rw\n", 1)],
@@ -237,6 +239,15 @@ fn limits_hold_to_the_last_one(rt: HostRuntime) -> Result<(), Fail> {
             Some((515, TextKind::Many)),
         ),
         (
+            "one more loaded byte, behind the region's end",
+            &[
+                ("map A memory 65536 rw\nscript s\n", 1),
+                ("load A 0 65536\n", 512),
+                ("load A 65536 1\n", 1),
+            ],
+            Some((515, TextKind::Range)),
+        ),
+        (
             "as many commands as may be",
             &[
                 ("map A memory 1 rw\nscript s\n", 1),
@@ -251,6 +262,15 @@ fn limits_hold_to_the_last_one(rt: HostRuntime) -> Result<(), Fail> {
                 ("load A 0 0\n", 262145),
             ],
             Some((262147, TextKind::Many)),
+        ),
+        (
+            "one more command, which stores where it may not",
+            &[
+                ("map A memory 1 ro\nscript s\n", 1),
+                ("load A 0 0\n", 262144),
+                ("store A 0 00\n", 1),
+            ],
+            Some((262147, TextKind::ReadOnly)),
         ),
     ];
     for (shows, pieces, wanted) in rows {
@@ -279,22 +299,31 @@ fn a_text_may_have_16777216_bytes(rt: HostRuntime) -> Result<(), Fail> {
     let longest = filled(rt.alloc(), b"s")?;
     assert_eq!(rt; longest.len(), 16777216);
     assert_eq!(rt; refused(rt.alloc(), longest.as_slice())?, None);
-    let longer = filled(rt.alloc(), b"ss")?;
-    assert_eq!(rt;
-        refused(rt.alloc(), longer.as_slice())?,
-        Some((0, TextKind::Long))
-    );
+    let mut longer = filled(rt.alloc(), b"ss")?;
+    let long = Some((0, TextKind::Long));
+    assert_eq!(rt; refused(rt.alloc(), longer.as_slice())?, long);
+    longer.extend_from_slice(b"flush")?;
+    assert_eq!(rt; refused(rt.alloc(), longer.as_slice())?, long, "unended");
     Ok(())
 }
 
 #[test]
 fn sixty_four_regions_and_scripts_may_begin(rt: HostRuntime) -> Result<(), Fail> {
-    for (line, behind) in [("map n", " memory 1 rw"), ("script s", "")] {
+    for (line, behind, other, kind) in [
+        ("map n", " memory 1 rw", "map n memory 1 wr", TextKind::Mode),
+        ("script s", "", "script s0", TextKind::Double),
+    ] {
         let mut text = String::new(rt.alloc());
         for i in 0..64 {
             text.push_str(format!(in rt.alloc(); "{line}{i}{behind}\n")?.as_str())?;
         }
         assert_eq!(rt; refused(rt.alloc(), text.as_bytes())?, None);
+        let worse = format!(in rt.alloc(); "{text}{other}\n")?;
+        assert_eq!(rt;
+            refused(rt.alloc(), worse.as_bytes())?,
+            Some((65, kind)),
+            "{other}"
+        );
         text.push_str(format!(in rt.alloc(); "{line}64{behind}\n")?.as_str())?;
         assert_eq!(rt;
             refused(rt.alloc(), text.as_bytes())?,
