@@ -10,12 +10,15 @@ pub mod FittedLanes
 pub mod OpenedOn
 pub mod EndedOn
 pub mod SerialFits
+pub mod Journaled
 pub mod InMemory
 pub mod RoomsLeft
-pub mod Standing
 pub mod WithoutFaults
 pub mod Ranged
 pub mod RanLines
 pub mod RanOne
 pub mod RanItems
 pub mod RegionNames
+pub mod Makings
+pub mod Tabled
+pub mod RegionRules

@@ -1,60 +1,41 @@
 -- A pager that was just opened over the lanes of a workload.
-use Rattle.std.proofs.Common.{◌≡◌, inl, inr, ℕ, zero, suc, ◌+◌, ◌*◌, ◌/◌, ◌%◌, ◌<◌, ◌≤◌, Bool, true, false, cond, ltb, List, [], length, map, get_or, Option, Some, None, is_some, slice_get, refl, sym, ap, subst, ◌∙◌, arith}
+use Rattle.std.proofs.Common.{◌≡◌, inl, inr, ℕ, zero, suc, ◌+◌, ◌*◌, ◌/◌, ◌%◌, ◌<◌, ◌≤◌, Bool, true, false, List, [], length, map, get_or, Option, Some, None, is_some, slice_get, refl, sym, ap, subst, ◌∙◌, arith}
 use Rattle.std.specs.Option.{IfSome, option_map, unwrap_or}
 use Rattle.std.specs.List.{list_all, range_with_len}
 use Rattle.std.proofs.lemmas.Bool.{cases_lt, and_parts}
 use Rattle.std.proofs.lemmas.List.{length-map}
-use Rattle.std.proofs.lemmas.Nat.{div-add-mod', mod_below}
+use Rattle.std.proofs.lemmas.Nat.{mod_below}
 use Rattle.std.proofs.Math.Nat.{div-one}
-use Rattle.std.proofs.lemmas.Option.{slice_get_within, get_or_from_slice_get}
+use Rattle.std.proofs.lemmas.Option.{slice_get_within, slice_get-map, get_or_from_slice_get}
 use Rattle.std.proofs.lemmas.List.{get_or_past}
 use Rattle.page_base.specs.Lanes.{Origin, LaneSeen, told_at}
-use Rattle.page_base.specs.Pages.{stripe_of, quota_of}
+use Rattle.page_base.specs.Pages.{stripe_of}
 use Rattle.page_base.specs.declared.keys.RegionShape.{RegionShape}
 use Rattle.page_base.specs.declared.layout.Layout.{Layout}
-use Rattle.page_model.specs.declared.journal.NoJournal.{NoJournal}
 use Rattle.page_model.specs.Core.{Core}
-use Rattle.page_model.specs.Setups.{Fits, told_by, count_by}
+use Rattle.page_model.specs.Setups.{Setup, told_by, count_by}
 use Rattle.page_model.specs.Setups as setups
 use Rattle.page_model.specs.Stands.{StandsFor}
-use Rattle.page_model.specs.Steps.{fresh}
-use Rattle.page_model.proofs.StandsLight.{fresh_stands}
-use Rattle.stripe_core.specs.Configs.{setup_of, CanMake}
+use Rattle.stripe_core.specs.Configs.{setup_of}
 use Rattle.store_trait.specs.Memory.{page_of}
 use Rattle.serial_pager.specs.declared.pager.PagerConfig.{PagerConfig}
 use Rattle.serial_pager.specs.Seen.{StripeSeen}
-use Rattle.serial_pager.specs.Pagers.{PagerSeen, config_of, CanOpen, IsOpened, core_in, stripe_at, count_at}
+use Rattle.serial_pager.specs.Pagers as pagers
+use Rattle.serial_pager.specs.Pagers.{PagerSeen, config_of, CanOpen, IsMade, IsOpened, core_in, core_at, stripe_at, count_at}
+use Rattle.serial_pager.proofs.Opening.{same_items}
 use Rattle.workload_text.specs.Grammar.{Region, size_at}
 use Rattle.script_run.specs.Serial.{bytes_at}
 use Rattle.script_run.specs.Contents.{no_lane, joined, pages_in, page_told, contents_of}
 use Rattle.script_run.specs.Fits.{FitLanes, pages_of, has_whole_pages}
 use Rattle.script_run.specs.FitsSerial.{spread_of, lane_at, is_told}
-use Rattle.script_run.specs.Ranges.{pages_at, key_of, HoldsRegion, Stands}
-use Rattle.script_run.specs.Running.{IsShaped, OpensOn, shape_of}
+use Rattle.script_run.specs.FitsJournals.{setup_at}
+use Rattle.script_run.specs.Ranges.{pages_at, key_of, HoldsRegion}
+use Rattle.script_run.specs.Running.{IsShaped, Shows, OpensOn, shape_of}
+use Rattle.script_run.specs.declared.settings.Settings.{Settings}
 use Rattle.script_run.proofs.Contents.{AreWhole, length-joined, page_of-joined, length-contents_by, get_or-contents_by}
 use Rattle.script_run.proofs.Openings.{sizes_whole}
 use Rattle.script_run.proofs.FittedLanes.{there, lane_there, pages_of_shape, row_len, lane_is, pages_fit, some_row, AreWholeRows}
 use Rattle.script_run.proofs.RanOne.{stripe_is}
-use Rattle.script_run.proofs.Standing.{some_core}
-
--- ---- quotas
-
-pub quota_some : (frames stripes s : ℕ) → 1 ≤ stripes → stripes ≤ frames → 1 ≤ quota_of frames stripes s
-quota_some frames stripes s some shared = go (ltb s (frames % stripes))
-  where
-    whole : 1 ≤ frames / stripes
-    whole = elim (cases_lt 0 (frames / stripes)) [
-      | inl some_ ↦ some_
-      | inr none ↦
-          let zero_ : frames / stripes ≡ 0 = omega (arith, none) in
-          absurd (omega (arith, div-add-mod' frames stripes, ap (λ q. q * stripes) zero_, mod_below frames stripes (omega (arith, some)), shared))
-    ]
-
-    go : (b : Bool) → 1 ≤ cond b (frames / stripes + 1) (frames / stripes)
-    go true = omega arith
-    go false = whole
-
--- ---- lists of all pages
 
 pub all_range : (P : ℕ → Bool) (a n : ℕ) → list_all P (range_with_len a n) ≡ true → (i : ℕ) → i < n → P (a + i) ≡ true
 all_range P a zero all i below = absurd (omega (arith, below))
@@ -67,7 +48,7 @@ is_there (Some x) e = (x, refl)
 
 pub core_there : {J : Type 0} (o : Option (StripeSeen J)) (c : Core) → core_in o ≡ Some c → (x : StripeSeen J) × ((o ≡ Some x) × (x.core ≡ c))
 core_there None c e = absurd (cc)
-core_there (Some x) c e = (x, (refl, some_core e))
+core_there (Some x) c e = (x, (refl, let same : x.core ≡ c = cc in same))
 
 module _ (layout : Layout) (gs : List Region) (rows : List (List LaneSeen)) (fit : FitLanes layout gs rows) (whole : AreWholeRows rows) where
   -- ---- told pages
@@ -125,7 +106,10 @@ module _ (layout : Layout) (gs : List Region) (rows : List (List LaneSeen)) (fit
 
   -- ---- the pager
 
-  module _ (c : PagerConfig) (journals : List NoJournal) (can : CanOpen c rows (length journals)) (p : PagerSeen NoJournal) (opened : IsOpened c rows journals p) (same : c.layout ≡ layout) (shapes : c.shapes.items ≡ map (shape_of layout.page_size) gs) (pages : has_whole_pages layout.page_size gs ≡ true) (small : (r : ℕ) → size_at gs r ≤ 16777216) where
+  module _ {J : Type 0} (set : Settings) (set_layout : set.layout ≡ layout) (c : PagerConfig) (is : c ≡ record { layout = set.layout; faults = set.faults; high = set.high; low = set.low; shapes = c.shapes }) (journals : List J) (can : CanOpen c rows (length journals)) (p : PagerSeen J) (opened : IsOpened c rows journals p) (shapes : c.shapes.items ≡ map (shape_of layout.page_size) gs) (pages : has_whole_pages layout.page_size gs ≡ true) (small : (r : ℕ) → size_at gs r ≤ 16777216) where
+    same : c.layout ≡ layout
+    same = ap (λ (x : PagerConfig). x.layout) is ∙ set_layout
+
     shapes_are : p.shapes ≡ map (shape_of layout.page_size) gs
     shapes_are = opened.shapes ∙ shapes
 
@@ -148,39 +132,48 @@ module _ (layout : Layout) (gs : List Region) (rows : List (List LaneSeen)) (fit
     rows_len : length rows ≡ length p.stripes
     rows_len = can.stripes ∙ sym opened.stripes
 
-    fits : (s : ℕ) (row : List LaneSeen) → slice_get rows s ≡ Some row → Fits (setup_of (config_of c s) row)
-    fits s row e =
-        let make : CanMake (config_of c s) row = can.each s row e in
-        let below : s < length rows = slice_get_within rows s row e in
-        record {
-          some_bytes = omega (arith, layout.large_pages, ap (λ (l : Layout). l.page_size) same);
-          some_frame = quota_some c.layout.frames c.layout.stripes s c.layout.some_stripe c.layout.shared;
-          some_fault = make.some_fault;
-          marks = make.marks;
-          percent = make.percent;
-          lanes = make.lane_count;
-          lane_of = make.lanes;
-          page_bytes = λ k bytes has b. go k.region k.page bytes (slice_get row k.region) refl b;
-        }
-      where
-        go : (r page : ℕ) (bytes : List ℕ) (o : Option LaneSeen) → slice_get row r ≡ o → told_by o page ≡ Some bytes → length bytes ≡ c.layout.page_size
-        go r page bytes None is b = absurd (cc)
-        go r page bytes (Some lane) is b =
-            let below : s < length rows = slice_get_within rows s row e in
-            let known : r < length gs = omega (arith, slice_get_within row r lane is, row_len layout gs rows fit s below, ap length (get_or_from_slice_get rows s row [] e)) in
-            subst (λ (o : Option (List ℕ)). IfSome o (λ x. length x ≡ lane.origin.page_size)) b (whole s r page row lane e is)
-            ∙ ap (λ (l : LaneSeen). l.origin.page_size) (sym (lane_there rows s r row lane e is))
-            ∙ ap (λ (o : Origin). o.page_size) (lane_is layout gs rows fit s r below known)
-            ∙ ap (λ (l : Layout). l.page_size) (sym same)
+    -- what is there of one stripe
+    record OpenAt (s : ℕ) : Type 0 where
+      row : List LaneSeen
+      journal : J
+      stripe : StripeSeen J
+      row_is : slice_get rows s ≡ Some row
+      journal_is : slice_get journals s ≡ Some journal
+      stripe_is_ : slice_get p.stripes s ≡ Some stripe
+      as_made : IsMade c s row journal stripe
 
-    stands : Stands p
-    stands s core e =
-        let x = core_there (slice_get p.stripes s) core e in
-        let below : s < length rows = omega (arith, rows_len, slice_get_within p.stripes s x.0 x.1.0) in
+    open_at : (s : ℕ) → s < length rows → OpenAt s
+    open_at s below =
         let row = there rows s below in
         let journal = there journals s (omega (arith, below, can.journals, can.stripes)) in
-        let is : core ≡ fresh (setup_of (config_of c s) row.0) = sym x.1.1 ∙ (opened.each s row.0 journal.0 x.0 row.1 journal.1 x.1.0).core in
-        ([], subst (StandsFor []) (sym is) (fresh_stands (setup_of (config_of c s) row.0) (fits s row.0 row.1)))
+        let x = there p.stripes s (omega (arith, below, rows_len)) in
+        record { row = row.0; journal = journal.0; stripe = x.0; row_is = row.1; journal_is = journal.1; stripe_is_ = x.1; as_made = opened.each s row.0 journal.0 x.0 row.1 journal.1 x.1 }
+
+    stands : (s : ℕ) (core : Core) → core_at p s ≡ Some core → StandsFor [] core
+    stands s core e =
+        let x = core_there (slice_get p.stripes s) core e in
+        let o = open_at s (omega (arith, rows_len, slice_get_within p.stripes s x.0 x.1.0)) in
+        let its : o.stripe ≡ x.0 = let two : Some o.stripe ≡ Some x.0 = sym o.stripe_is_ ∙ x.1.0 in cc in
+        subst (StandsFor []) (ap (λ (y : StripeSeen J). y.core) its ∙ x.1.1) o.as_made.stands
+
+    journals_are : map (λ (x : StripeSeen J). x.journal) p.stripes ≡ journals
+    journals_are = same_items (map (λ (x : StripeSeen J). x.journal) p.stripes) journals
+        (length-map p.stripes (λ (x : StripeSeen J). x.journal) ∙ opened.stripes ∙ sym can.journals)
+        (λ s journal e.
+        let below : s < length rows = omega (arith, slice_get_within (map (λ (x : StripeSeen J). x.journal) p.stripes) s journal e, length-map p.stripes (λ (x : StripeSeen J). x.journal), rows_len) in
+        let o = open_at s below in
+        let its : o.stripe.journal ≡ journal = let two : Some o.stripe.journal ≡ Some journal = sym (slice_get-map (λ (x : StripeSeen J). x.journal) p.stripes s ∙ ap (option_map (λ (x : StripeSeen J). x.journal)) o.stripe_is_) ∙ e in cc in
+        o.journal_is ∙ ap (λ (x : J). Some x) (sym o.as_made.journal ∙ its))
+
+    made : (s : ℕ) → s < layout.stripes → pagers.setup_at p s ≡ Some (setup_at set p.shapes rows s)
+    made s below =
+        let o = open_at s (omega (arith, below, fit.stripes)) in
+        let setup : Setup = setup_of (config_of c s) o.row in
+        let its : setup ≡ setup_at set p.shapes rows s =
+        ap (λ (x : PagerConfig). setup_of (config_of x s) o.row) is
+        ∙ ap (λ (ss : List RegionShape). record (setup_at set p.shapes rows s) { shapes = ss; lanes = o.row }) (sym opened.shapes)
+        ∙ ap (λ (ls : List LaneSeen). record (setup_at set p.shapes rows s) { lanes = ls }) (sym (get_or_from_slice_get rows s o.row [] o.row_is)) in
+        ap (λ (x : Option (StripeSeen J)). option_map (λ (y : Core). y.setup) (core_in x)) o.stripe_is_ ∙ ap (λ (y : Core). Some y.setup) o.as_made.core ∙ ap (λ (x : Setup). Some x) its
 
     holds : (r : ℕ) → r < length p.shapes → is_told rows r ≡ true → HoldsRegion p r (bytes_at (contents_of rows) r)
     holds r below told =
@@ -211,25 +204,17 @@ module _ (layout : Layout) (gs : List Region) (rows : List (List LaneSeen)) (fit
           | inr past ↦ ap count_by e ∙ ap (λ (l : LaneSeen). l.count) (sym (get_or_past row r no_lane past))
         ]
 
-    pub opens_on : OpensOn (spread_of layout) gs rows p
+    pub opens_on : OpensOn set gs rows journals p
     opens_on = record {
-      shaped = shaped;
+      shaped = subst (λ (l : Layout). IsShaped (spread_of l) gs p) (sym set_layout) shaped;
       spent = opened.spent;
       stands = stands;
-      shows = record {
+      shows = subst (λ (l : Layout). Shows (spread_of l) (is_told rows) [] (contents_of rows) p) (sym set_layout) (record {
         count = length-contents_by (pages_in rows) (page_told rows) ∙ ap length (pages_fit layout gs rows fit) ∙ length-map gs (λ (g : Region). g.size / layout.page_size) ∙ sym (ap length shapes_are ∙ length-map gs (shape_of layout.page_size));
         holds = holds;
         owed = λ k e. absurd (let no : true ≡ false = sym e ∙ opened.owes k in cc);
-      };
-      counts = counts;
-      made = λ s row e.
-          let below : s < length rows = slice_get_within rows s row e in
-          let x = there p.stripes s (omega (arith, below, rows_len)) in
-          let journal = there journals s (omega (arith, below, can.journals, can.stripes)) in
-          record {
-            config = c;
-            setup = ap (λ (o : Option (StripeSeen NoJournal)). option_map (λ (y : Core). y.setup) (core_in o)) x.1 ∙ ap (λ (y : Core). Some y.setup) (opened.each s row journal.0 x.0 e journal.1 x.1).core;
-            shapes = sym opened.shapes;
-            stripes = sym opened.stripes;
-          };
+      });
+      counts = λ s r below. counts s r (subst (λ (l : Layout). s < l.stripes) set_layout below);
+      made = λ s below. made s (subst (λ (l : Layout). s < l.stripes) set_layout below);
+      journals_are = journals_are;
     }

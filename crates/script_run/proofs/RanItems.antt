@@ -4,7 +4,8 @@ use Rattle.std.specs.List.{flat_map}
 use Rattle.std.proofs.lemmas.Bool.{and_parts, and_from}
 use Rattle.std.proofs.lemmas.List.{take-append-drop, drop_more, take_more}
 use Rattle.std.proofs.lemmas.List.Concat.{flat_map-append}
-use Rattle.page_model.specs.declared.journal.NoJournal.{NoJournal}
+use Rattle.histories.specs.Histories.{History}
+use Rattle.page_model.specs.declared.entry.Entry.{Entry}
 use Rattle.serial_pager.specs.Pagers.{PagerSeen, IsSame}
 use Rattle.workload_text.specs.Line.{Line}
 use Rattle.workload_text.specs.Grammar.{Region}
@@ -17,8 +18,9 @@ use Rattle.script_run.specs.FitsSerial.{Spread}
 use Rattle.script_run.specs.Ranges.{pages_at}
 use Rattle.script_run.specs.Running.{IsShaped, MayRun, behind, Ran}
 use Rattle.script_run.specs.declared.replies.Replies.{Replies}
+use Rattle.script_run.proofs.Makings.{all_none}
 use Rattle.script_run.proofs.Ranged.{same_pages, goes_none}
-use Rattle.script_run.proofs.RanLines.{ran_none, ran_more, ran_one, rooms-append, bytes-append, commands-append}
+use Rattle.script_run.proofs.RanLines.{ran_none, ran_more, ran_one, makes_none, rooms-append, bytes-append, commands-append}
 use Rattle.script_run.proofs.RanOne.{shows_same, counts_same}
 
 AllFit-split : (gs : List Region) (xs ys : List Line) → AllFit gs (xs ++ ys) → AllFit gs xs × AllFit gs ys
@@ -32,8 +34,8 @@ built-split (x ∷ xs) ys h =
     let s = built-split xs ys p.1 in
     (and_from (is_built_line x) (is_built xs) p.0 s.0, s.1)
 
-module _ (t : Spread) (gs : List Region) where
-  pub shaped_same : (p q : PagerSeen NoJournal) → IsShaped t gs p → IsSame p q → IsShaped t gs q
+module _ {J : Type 0} (t : Spread) (gs : List Region) where
+  pub shaped_same : (p q : PagerSeen J) → IsShaped t gs p → IsSame p q → IsShaped t gs q
   shaped_same p q h s = record {
     some = h.some;
     page_size = s.page_size ∙ h.page_size;
@@ -43,7 +45,7 @@ module _ (t : Spread) (gs : List Region) where
     small = h.small;
   }
 
-  pub may_first : (xs ys : List Line) (r : Replies) (p : PagerSeen NoJournal) → MayRun t gs (xs ++ ys) r p → MayRun t gs xs r p
+  pub may_first : (xs ys : List Line) (r : Replies) (p : PagerSeen J) → MayRun t gs (xs ++ ys) r p → MayRun t gs xs r p
   may_first xs ys r p m = record {
     built = (built-split xs ys m.built).0;
     fit = (AllFit-split gs xs ys m.fit).0;
@@ -53,11 +55,12 @@ module _ (t : Spread) (gs : List Region) where
     pieces = omega (arith, m.pieces, commands-append xs ys);
   }
 
-  pub may_rest : (before xs ys : List Line) (r0 r1 : Replies) (p q : PagerSeen NoJournal) → MayRun t gs (xs ++ ys) r0 p → Ran t gs before xs r0 r1 p q → MayRun t gs ys r1 q
+module _ {J : Type 0} (has_noted : J → History Entry → Type 0) (t : Spread) (gs : List Region) where
+  pub may_rest : (before xs ys : List Line) (r0 r1 : Replies) (p q : PagerSeen J) → MayRun t gs (xs ++ ys) r0 p → Ran has_noted t gs before xs r0 r1 p q → MayRun t gs ys r1 q
   may_rest before xs ys r0 r1 p q m ran = record {
     built = (built-split xs ys m.built).1;
     fit = (AllFit-split gs xs ys m.fit).1;
-    shaped = shaped_same p q m.shaped ran.same;
+    shaped = shaped_same t gs p q m.shaped ran.same;
     room = omega (arith, m.room, ran.spare, rooms-append gs xs ys);
     few = omega (arith, m.few, ran.loaded, ran.within, bytes-append xs ys);
     pieces = omega (arith, m.pieces, ran.pieces, commands-append xs ys);
@@ -72,32 +75,32 @@ module _ (t : Spread) (gs : List Region) where
         ∙ ap (λ (xs : List X). flat_map f (take i items) ++ flat_map f xs) (drop_more items i x below ∙ ap (λ (y : X). y ∷ drop (i + 1) items) (sym is)))
         ∙ sym (append_assoc pre (flat_map f (take i items)) (f x ++ flat_map f (drop (i + 1) items)))
 
-    pub may_item : (before : List Line) (r0 r1 : Replies) (p q : PagerSeen NoJournal) → MayRun t gs (pre ++ flat_map f items) r0 p → Ran t gs before (pre ++ flat_map f (take i items)) r0 r1 p q → MayRun t gs (f x) r1 q
+    pub may_item : (before : List Line) (r0 r1 : Replies) (p q : PagerSeen J) → MayRun t gs (pre ++ flat_map f items) r0 p → Ran has_noted t gs before (pre ++ flat_map f (take i items)) r0 r1 p q → MayRun t gs (f x) r1 q
     may_item before r0 r1 p q m ran =
-        may_first (f x) (flat_map f (drop (i + 1) items)) r1 q
+        may_first t gs (f x) (flat_map f (drop (i + 1) items)) r1 q
         (may_rest before (pre ++ flat_map f (take i items)) (f x ++ flat_map f (drop (i + 1) items)) r0 r1 p q (subst (λ (ls : List Line). MayRun t gs ls r0 p) parts m) ran)
 
-    pub ran_item : (before : List Line) (r0 r1 r2 : Replies) (p q z : PagerSeen NoJournal) → Ran t gs before (pre ++ flat_map f (take i items)) r0 r1 p q → Ran t gs (behind before (pre ++ flat_map f (take i items))) (f x) r1 r2 q z → Ran t gs before (pre ++ flat_map f (take (i + 1) items)) r0 r2 p z
+    pub ran_item : (before : List Line) (r0 r1 r2 : Replies) (p q z : PagerSeen J) → Ran has_noted t gs before (pre ++ flat_map f (take i items)) r0 r1 p q → Ran has_noted t gs (behind before (pre ++ flat_map f (take i items))) (f x) r1 r2 q z → Ran has_noted t gs before (pre ++ flat_map f (take (i + 1) items)) r0 r2 p z
     ran_item before r0 r1 r2 p q z a b =
-        subst (λ (ls : List Line). Ran t gs before ls r0 r2 p z)
+        subst (λ (ls : List Line). Ran has_noted t gs before ls r0 r2 p z)
         (append_assoc pre (flat_map f (take i items)) (f x)
         ∙ ap (λ (ls : List Line). pre ++ ls)
         (ap (λ (ls : List Line). flat_map f (take i items) ++ ls) (sym (append-nil (f x)))
         ∙ sym (flat_map-append f (take i items) (x ∷ []))
         ∙ ap (flat_map f) (ap (λ (y : X). take i items ++ y ∷ []) is ∙ sym (take_more items i x below))))
-        (ran_more t gs before (pre ++ flat_map f (take i items)) (f x) r0 r1 r2 p q z a b)
+        (ran_more has_noted t gs before (pre ++ flat_map f (take i items)) (f x) r0 r1 r2 p q z a b)
 
   -- `map` lines say nothing
-  ran_map : (before : List Line) (m : MapLine) (r : Replies) (p : PagerSeen NoJournal) → IsShaped t gs p → Ran t gs before (region_line m ∷ []) r r p p
+  ran_map : (before : List Line) (m : MapLine) (r : Replies) (p : PagerSeen J) → IsShaped t gs p → Ran has_noted t gs before (region_line m ∷ []) r r p p
   ran_map before m r p shaped =
-      ran_one t gs before (region_line m) nothing 0 r r p p (sym (append-nil r.text.items)) (omega arith) (omega arith) (omega arith) (omega arith) (or_none r.faulted)
+      ran_one has_noted t gs before (region_line m) nothing 0 r r p p (sym (append-nil r.text.items)) (omega arith) (omega arith) (omega arith) (omega arith) (or_none r.faulted)
       (λ told regions shows. (tt, shows_same t gs p shaped told before (region_line m) regions p 0 (goes_none p) shows (λ k has. refl) (λ k e. e)))
-      (counts_same t gs p shaped p 0 (goes_none p)) (goes_none p) (omega arith)
+      (counts_same t gs p shaped p 0 (goes_none p)) (goes_none p) (omega arith) (λ s. []) (all_none has_noted p) (makes_none t (region_line m) nothing refl refl)
     where
       or_none : (x : Bool) → x ≡ (x || false)
       or_none true = refl
       or_none false = refl
 
-  pub ran_maps : (before : List Line) (ms : List MapLine) (r : Replies) (p : PagerSeen NoJournal) → IsShaped t gs p → Ran t gs before (map region_line ms) r r p p
-  ran_maps before [] r p shaped = ran_none t gs before r p
-  ran_maps before (m ∷ ms) r p shaped = ran_more t gs before (region_line m ∷ []) (map region_line ms) r r r p p p (ran_map before m r p shaped) (ran_maps (region_line m ∷ before) ms r p shaped)
+  pub ran_maps : (before : List Line) (ms : List MapLine) (r : Replies) (p : PagerSeen J) → IsShaped t gs p → Ran has_noted t gs before (map region_line ms) r r p p
+  ran_maps before [] r p shaped = ran_none has_noted t gs before r p
+  ran_maps before (m ∷ ms) r p shaped = ran_more has_noted t gs before (region_line m ∷ []) (map region_line ms) r r r p p p (ran_map before m r p shaped) (ran_maps (region_line m ∷ before) ms r p shaped)

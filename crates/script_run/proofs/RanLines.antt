@@ -3,17 +3,20 @@ use Rattle.std.proofs.Common.{◌≡◌, ℕ, ◌+◌, ◌*◌, ◌≤◌, ◌||
 use Rattle.std.specs.List.{flat_map, list_any}
 use Rattle.std.proofs.lemmas.List.Concat.{flat_map-append}
 use Rattle.std.proofs.lemmas.List.Sums.{sum_by-append}
-use Rattle.page_model.specs.declared.journal.NoJournal.{NoJournal}
-use Rattle.serial_pager.specs.Pagers.{PagerSeen, count_at}
+use Rattle.histories.specs.Histories.{History}
+use Rattle.page_model.specs.declared.entry.Entry.{Entry}
+use Rattle.serial_pager.specs.Pagers.{PagerSeen, count_at, WentAll}
 use Rattle.workload_text.specs.Line.{Line, map_line, script_line, load_line, store_line, prefetch_line, flush_line, unmap_line}
 use Rattle.workload_text.specs.Grammar.{Region}
 use Rattle.workload_text.specs.Accepted.{loaded_bytes, command_count}
 use Rattle.script_run.specs.Rooms.{room, rooms}
 use Rattle.script_run.specs.Replies.{Reply, reply_text, replies_text, is_fault, bytes_shown}
-use Rattle.script_run.specs.FitsSerial.{Spread, MayAnswer, AllAnswer, left, left_by, count_in, counts_named, Rising, last_count, CountsFit}
+use Rattle.script_run.specs.LineEntries.{Accesses, Failure, Makes, AllMake}
+use Rattle.script_run.specs.FitsSerial.{Spread, stripe_in, MayAnswer, AllAnswer, left, left_by, count_in, counts_named, Rising, last_count, CountsFit}
 use Rattle.script_run.specs.Ranges.{GoesOn}
 use Rattle.script_run.specs.Running.{Shows, behind, Ran}
 use Rattle.script_run.specs.declared.replies.Replies.{Replies}
+use Rattle.script_run.proofs.Makings.{all_none, all_more, order_none}
 use Rattle.script_run.proofs.Ranged.{same_more}
 
 pub rooms-append : (gs : List Region) (xs ys : List Line) → rooms gs (xs ++ ys) ≡ rooms gs xs + rooms gs ys
@@ -83,6 +86,32 @@ counts_more a b c ns ms h k = record {
   within = subst (λ n. n ≤ c) (sym (last_append a ns ms)) (last_less (last_count a ns) b c ms h.within k.within);
 }
 
+-- ---- what lines make
+
+module _ (t : Spread) where
+  -- behind the same entries by another name
+  make_behind : (ls : List Line) (replies : List Reply) (mid behind all : ℕ → List Entry) → ((s : ℕ) → mid s ≡ behind s) → AllMake t ls replies mid all → AllMake t ls replies behind all
+  make_behind [] [] mid behind all same h = λ s. h s ∙ same s
+  make_behind [] (a ∷ more) mid behind all same h = absurd h
+  make_behind (l ∷ ls) [] mid behind all same h = absurd h
+  make_behind (l ∷ ls) (a ∷ more) mid behind all same h = (h.0, h.1, make_behind ls more (λ s. h.0 s ++ mid s) (λ s. h.0 s ++ behind s) all (λ s. ap (λ (es : List Entry). h.0 s ++ es) (same s)) h.2)
+
+  pub make_all : (ls : List Line) (replies : List Reply) (behind all other : ℕ → List Entry) → ((s : ℕ) → other s ≡ all s) → AllMake t ls replies behind all → AllMake t ls replies behind other
+  make_all [] [] behind all other same h = λ s. same s ∙ h s
+  make_all [] (a ∷ more) behind all other same h = absurd h
+  make_all (l ∷ ls) [] behind all other same h = absurd h
+  make_all (l ∷ ls) (a ∷ more) behind all other same h = (h.0, h.1, make_all ls more (λ s. h.0 s ++ behind s) all other same h.2)
+
+  make_more : (xs ys : List Line) (ones bs : List Reply) (behind mid all : ℕ → List Entry) → AllMake t xs ones behind mid → AllMake t ys bs mid all → AllMake t (xs ++ ys) (ones ++ bs) behind all
+  make_more [] ys [] bs behind mid all h k = make_behind ys bs mid behind all h k
+  make_more [] ys (a ∷ more) bs behind mid all h k = absurd h
+  make_more (x ∷ xs) ys [] bs behind mid all h k = absurd h
+  make_more (x ∷ xs) ys (a ∷ more) bs behind mid all h k = (h.0, h.1, make_more xs ys more bs (λ s. h.0 s ++ behind s) mid all h.2 k)
+
+  -- a line that makes nothing
+  pub makes_none : (l : Line) (a : Reply) → Accesses t.page_size l a [] → Failure t.page_size l a [] → Makes t l a (λ s. [])
+  makes_none l a accesses failure = record { accesses = []; failure = []; accesses_are = accesses; failure_is = failure; in_order = order_none (stripe_in t) }
+
 -- ---- runs
 
 pub any_append : (xs ys : List Reply) → list_any is_fault (xs ++ ys) ≡ (list_any is_fault xs || list_any is_fault ys)
@@ -97,8 +126,8 @@ or_assoc : (x y z : Bool) → ((x || y) || z) ≡ (x || (y || z))
 or_assoc true y z = refl
 or_assoc false y z = refl
 
-module _ (t : Spread) (gs : List Region) where
-  pub ran_none : (before : List Line) (r : Replies) (p : PagerSeen NoJournal) → Ran t gs before [] r r p p
+module _ {J : Type 0} (has_noted : J → History Entry → Type 0) (t : Spread) (gs : List Region) where
+  pub ran_none : (before : List Line) (r : Replies) (p : PagerSeen J) → Ran has_noted t gs before [] r r p p
   ran_none before r p = record {
     replies = [];
     text = sym (append-nil r.text.items);
@@ -110,15 +139,17 @@ module _ (t : Spread) (gs : List Region) where
     answered = λ told regions shows. (tt, shows);
     counts = λ s r. record { rising = tt; within = omega arith };
     same = record { page_size = refl; shapes = refl; stripes = refl; setups = λ s. refl };
-    stands = λ h. h;
     pieces = omega arith;
+    made = λ s. [];
+    went = all_none has_noted p;
+    lines_make = λ older s. refl;
   }
     where
       or-false : (x : Bool) → (x || false) ≡ x
       or-false true = refl
       or-false false = refl
 
-  pub ran_more : (before xs ys : List Line) (r0 r1 r2 : Replies) (p q z : PagerSeen NoJournal) → Ran t gs before xs r0 r1 p q → Ran t gs (behind before xs) ys r1 r2 q z → Ran t gs before (xs ++ ys) r0 r2 p z
+  pub ran_more : (before xs ys : List Line) (r0 r1 r2 : Replies) (p q z : PagerSeen J) → Ran has_noted t gs before xs r0 r1 p q → Ran has_noted t gs (behind before xs) ys r1 r2 q z → Ran has_noted t gs before (xs ++ ys) r0 r2 p z
   ran_more before xs ys r0 r1 r2 p q z a b =
       let shown : flat_map bytes_shown (a.replies ++ b.replies) ≡ flat_map bytes_shown a.replies ++ flat_map bytes_shown b.replies = flat_map-append bytes_shown a.replies b.replies in
       let long : length (flat_map bytes_shown (a.replies ++ b.replies)) ≡ length (flat_map bytes_shown a.replies) + length (flat_map bytes_shown b.replies) = ap length shown ∙ length-append (flat_map bytes_shown a.replies) (flat_map bytes_shown b.replies) in
@@ -137,17 +168,21 @@ module _ (t : Spread) (gs : List Region) where
             (both.0, subst (λ rs. Shows t told (behind before (xs ++ ys)) rs z) (sym both.1) (subst (λ ls. Shows t told ls (left_by (left_by regions xs a.replies) ys b.replies) z) (sym (behind-append before xs ys)) second.1));
         counts = λ s r. subst (λ ns. CountsFit (count_at p s r) ns (count_at z s r)) (sym (flat_map-append (count_in t s r) a.replies b.replies)) (counts_more (count_at p s r) (count_at q s r) (count_at z s r) (counts_named t s r a.replies) (counts_named t s r b.replies) (a.counts s r) (b.counts s r));
         same = same_more p q z a.same b.same;
-        stands = λ h. b.stands (a.stands h);
         pieces = omega (arith, a.pieces, b.pieces, commands-append xs ys);
+        made = λ s. b.made s ++ a.made s;
+        went = all_more has_noted a.made b.made p q z a.same.stripes a.went b.went;
+        lines_make = λ older.
+            make_all t (xs ++ ys) (a.replies ++ b.replies) older (λ s. b.made s ++ (a.made s ++ older s)) (λ s. (b.made s ++ a.made s) ++ older s) (λ s. append_assoc (b.made s) (a.made s) (older s))
+            (make_more t xs ys a.replies b.replies older (λ s. a.made s ++ older s) (λ s. b.made s ++ (a.made s ++ older s)) (a.lines_make older) (b.lines_make (λ s. a.made s ++ older s)));
       }
 
   -- one line with its reply
-  pub ran_one : (before : List Line) (l : Line) (a : Reply) (len : ℕ) (r0 r1 : Replies) (p q : PagerSeen NoJournal) → r1.text.items ≡ r0.text.items ++ reply_text gs a → r0.text.spare ≤ r1.text.spare + room gs l → r1.loaded ≡ r0.loaded + length (bytes_shown a) → r1.sum ≡ r0.sum + sum (bytes_shown a)
+  pub ran_one : (before : List Line) (l : Line) (a : Reply) (len : ℕ) (r0 r1 : Replies) (p q : PagerSeen J) → r1.text.items ≡ r0.text.items ++ reply_text gs a → r0.text.spare ≤ r1.text.spare + room gs l → r1.loaded ≡ r0.loaded + length (bytes_shown a) → r1.sum ≡ r0.sum + sum (bytes_shown a)
       → length (bytes_shown a) ≤ loaded_bytes (l ∷ []) → r1.faulted ≡ (r0.faulted || is_fault a)
       → ((told : ℕ → Bool) (regions : List (List ℕ)) → Shows t told before regions p → MayAnswer t told (l ∷ before) regions l a × Shows t told (l ∷ before) (left regions l a) q)
-      → ((s r : ℕ) → CountsFit (count_at p s r) (count_in t s r a) (count_at q s r)) → GoesOn len p q → len ≤ 65536 * command_count (l ∷ [])
-      → Ran t gs before (l ∷ []) r0 r1 p q
-  ran_one before l a len r0 r1 p q text spare loaded added within faulted answered counts goes few =
+      → ((s r : ℕ) → CountsFit (count_at p s r) (count_in t s r a) (count_at q s r)) → GoesOn len p q → len ≤ 65536 * command_count (l ∷ []) → (made : ℕ → List Entry) → WentAll has_noted made p q → Makes t l a made
+      → Ran has_noted t gs before (l ∷ []) r0 r1 p q
+  ran_one before l a len r0 r1 p q text spare loaded added within faulted answered counts goes few made went makes =
       let shown : flat_map bytes_shown (a ∷ []) ≡ bytes_shown a = append-nil (bytes_shown a) in
       record {
         replies = a ∷ [];
@@ -160,8 +195,10 @@ module _ (t : Spread) (gs : List Region) where
         answered = λ told regions shows. let h = answered told regions shows in ((h.0, tt), h.1);
         counts = λ s r. subst (λ ns. CountsFit (count_at p s r) ns (count_at q s r)) (sym (append-nil (count_in t s r a))) (counts s r);
         same = goes.same;
-        stands = goes.stands;
         pieces = omega (arith, goes.spent, few);
+        made = made;
+        went = went;
+        lines_make = λ older. (made, makes, λ s. refl);
       }
     where
       or_none : (x : Bool) → (x || false) ≡ x

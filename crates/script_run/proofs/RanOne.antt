@@ -7,9 +7,12 @@ use Rattle.page_base.specs.ListSeen.{spliced}
 use Rattle.page_base.specs.Pages.{stripe_of}
 use Rattle.page_base.specs.declared.keys.Key.{Key}
 use Rattle.page_base.specs.declared.keys.RegionShape.{RegionShape}
-use Rattle.page_model.specs.declared.journal.NoJournal.{NoJournal}
+use Rattle.histories.specs.Histories.{History}
+use Rattle.page_model.specs.declared.entry.Entry.{Entry}
+use Rattle.page_model.specs.declared.entry.Entry.TheVariants.{Load, Save}
 use Rattle.serial_pager.specs.declared.fault.PageFault.{PageFault}
 use Rattle.std.proofs.lemmas.Option.{slice_get_within}
+use Rattle.region_table.specs.Pieces.{pieces_of}
 use Rattle.serial_pager.specs.Pagers.{PagerSeen, group_in, page_in, has_page, may_store, is_writable, stripe_at, held, owes, count_at, HoldsSame}
 use Rattle.workload_text.specs.Line.{Line, script_line, load_line, store_line}
 use Rattle.workload_text.specs.Grammar.{Region, size_at, writable_at}
@@ -17,11 +20,13 @@ use Rattle.script_run.specs.Serial.{bytes_at, load_reply}
 use Rattle.script_run.specs.Rooms.{fault_room}
 use Rattle.script_run.specs.Replies.{begun, loaded, ok, fault, reply_text}
 use Rattle.script_run.specs.FitsSerial.{Spread, stripe_in, StoresTo, Names, EndsAt, piece_key, count_in, CountsFit}
-use Rattle.script_run.specs.Ranges.{IsRange, HoldsRegion, GoesOn, FaultsAt}
+use Rattle.script_run.specs.LineEntries.{loads, saves, AreBefore, Fails, MakesInOrder}
+use Rattle.script_run.specs.Ranges.{IsRange, HoldsRegion, GoesOn, FaultsAt, GoesBy, BreaksOff}
 use Rattle.script_run.specs.Running.{IsShaped, Shows, Ran, shape_of}
 use Rattle.script_run.specs.declared.replies.Replies.{Replies}
 use Rattle.script_run.proofs.Ranged.{region_kept, region_kept_in, goes_none}
-use Rattle.script_run.proofs.RanLines.{ran_one}
+use Rattle.script_run.proofs.Makings.{all_none, order_same}
+use Rattle.script_run.proofs.RanLines.{ran_one, makes_none}
 
 -- ---- the shape of a pager
 
@@ -35,7 +40,7 @@ stores_in size [] r e = e
 stores_in size (g ∷ gs) zero e = e
 stores_in size (g ∷ gs) (suc r) e = stores_in size gs r e
 
-module _ (t : Spread) (gs : List Region) (p : PagerSeen NoJournal) (shaped : IsShaped t gs p) where
+module _ {J : Type 0} (t : Spread) (gs : List Region) (p : PagerSeen J) (shaped : IsShaped t gs p) where
   pub stripe_is : (k : Key) → stripe_at p k ≡ stripe_in t k
   stripe_is k =
       ap (λ n. stripe_of n (group_in (slice_get p.shapes k.region)) k.region k.page) shaped.stripes
@@ -56,7 +61,7 @@ module _ (t : Spread) (gs : List Region) (p : PagerSeen NoJournal) (shaped : IsS
 
   -- ---- what is shown behind a line
 
-  module _ (told : ℕ → Bool) (before : List Line) (l : Line) (regions : List (List ℕ)) (q : PagerSeen NoJournal) (n : ℕ) (goes : GoesOn n p q) (shows : Shows t told before regions p) where
+  module _ (told : ℕ → Bool) (before : List Line) (l : Line) (regions : List (List ℕ)) (q : PagerSeen J) (n : ℕ) (goes : GoesOn n p q) (shows : Shows t told before regions p) where
     many : length p.shapes ≡ length q.shapes
     many = sym (ap length goes.same.shapes)
 
@@ -102,10 +107,10 @@ module _ (t : Spread) (gs : List Region) (p : PagerSeen NoJournal) (shaped : IsS
 
   -- ---- counts
 
-  pub counts_same : (q : PagerSeen NoJournal) (n : ℕ) → GoesOn n p q → (s r : ℕ) → CountsFit (count_at p s r) [] (count_at q s r)
+  pub counts_same : (q : PagerSeen J) (n : ℕ) → GoesOn n p q → (s r : ℕ) → CountsFit (count_at p s r) [] (count_at q s r)
   counts_same q n goes s r = record { rising = tt; within = goes.counts s r }
 
-  pub counts_fault : (q : PagerSeen NoJournal) (n r off len done : ℕ) (stores : Key → Type 0) (f : PageFault) → GoesOn n p q → FaultsAt p q r off len stores done f → (s g : ℕ) → CountsFit (count_at p s g) (count_in t s g (fault f.key f.faults done)) (count_at q s g)
+  pub counts_fault : (q : PagerSeen J) (n r off len done : ℕ) (stores : Key → Type 0) (f : PageFault) → GoesOn n p q → FaultsAt p q r off len stores done f → (s g : ℕ) → CountsFit (count_at p s g) (count_in t s g (fault f.key f.faults done)) (count_at q s g)
   counts_fault q n r off len done stores f goes at s g = elim (cases_Bool (stripe_in t f.key == s && f.key.region == g)) [
     | inl yes_ ↦
         let parts = and_parts (stripe_in t f.key == s) (f.key.region == g) yes_ in
@@ -120,65 +125,102 @@ module _ (t : Spread) (gs : List Region) (p : PagerSeen NoJournal) (shaped : IsS
 
   -- ---- lines
 
-  pub ran_script : (before : List Line) (name : List ℕ) (r0 r1 : Replies) → r1.text.items ≡ r0.text.items ++ (codes "script " ++ (name ++ 10 ∷ [])) → r0.text.spare ≤ r1.text.spare + (length name + 8) → r1.loaded ≡ r0.loaded → r1.sum ≡ r0.sum → r1.faulted ≡ r0.faulted
-      → Ran t gs before (script_line name ∷ []) r0 r1 p p
-  ran_script before name r0 r1 text spare count total flag =
-      ran_one t gs before (script_line name) (begun name) 0 r0 r1 p p text spare (omega (arith, count)) (omega (arith, total)) (omega arith) (flag ∙ sym (or_none r0.faulted))
-      (λ told regions shows. (refl, shows_same told before (script_line name) regions p 0 (goes_none p) shows (λ k has. refl) (λ k e. e)))
-      (counts_same p 0 (goes_none p)) (goes_none p) (omega arith)
-    where
-      or_none : (x : Bool) → (x || false) ≡ x
-      or_none true = refl
-      or_none false = refl
+  module _ (has_noted : J → History Entry → Type 0) where
+    -- by the layout's stripes
+    made_in : (a failure : List Entry) (made : ℕ → List Entry) → MakesInOrder (stripe_at p) a failure made → MakesInOrder (stripe_in t) a failure made
+    made_in a failure made o = order_same (stripe_at p) (stripe_in t) a failure made stripe_is o
 
-  module _ (before : List Line) (r off : ℕ) (r0 r1 : Replies) (q : PagerSeen NoJournal) (known : r < length gs) where
-    below : r < length p.shapes
-    below = subst (λ m. r < m) (sym regions_are) known
+    pub ran_script : (before : List Line) (name : List ℕ) (r0 r1 : Replies) → r1.text.items ≡ r0.text.items ++ (codes "script " ++ (name ++ 10 ∷ [])) → r0.text.spare ≤ r1.text.spare + (length name + 8) → r1.loaded ≡ r0.loaded → r1.sum ≡ r0.sum → r1.faulted ≡ r0.faulted
+        → Ran has_noted t gs before (script_line name ∷ []) r0 r1 p p
+    ran_script before name r0 r1 text spare count total flag =
+        ran_one has_noted t gs before (script_line name) (begun name) 0 r0 r1 p p text spare (omega (arith, count)) (omega (arith, total)) (omega arith) (flag ∙ sym (or_none r0.faulted))
+        (λ told regions shows. (refl, shows_same told before (script_line name) regions p 0 (goes_none p) shows (λ k has. refl) (λ k e. e)))
+        (counts_same p 0 (goes_none p)) (goes_none p) (omega arith) (λ s. []) (all_none has_noted p) (makes_none t (script_line name) (begun name) refl refl)
+      where
+        or_none : (x : Bool) → (x || false) ≡ x
+        or_none true = refl
+        or_none false = refl
 
-    or_false : (x : Bool) → x ≡ (x || false)
-    or_false true = refl
-    or_false false = refl
+    module _ (before : List Line) (r off : ℕ) (r0 r1 : Replies) (q : PagerSeen J) (known : r < length gs) where
+      below : r < length p.shapes
+      below = subst (λ m. r < m) (sym regions_are) known
 
-    or_true : (x : Bool) → true ≡ (x || true)
-    or_true true = refl
-    or_true false = refl
+      or_false : (x : Bool) → x ≡ (x || false)
+      or_false true = refl
+      or_false false = refl
 
-    pub ran_load : (len : ℕ) (bytes : List ℕ) → length bytes ≡ len → len ≤ 65536 → GoesOn len p q → HoldsSame p q → ((k : Key) → owes q k ≡ true → owes p k ≡ true) → ((b : List ℕ) → HoldsRegion p r b → bytes ≡ take len (drop off b))
-        → r1.text.items ≡ r0.text.items ++ load_reply bytes → r0.text.spare ≤ r1.text.spare + (2 * length bytes + 6) → r1.loaded ≡ r0.loaded + length bytes → r1.sum ≡ r0.sum + sum bytes → r1.faulted ≡ r0.faulted
-        → Ran t gs before (load_line r off len ∷ []) r0 r1 p q
-    ran_load len bytes long short goes same owed is text spare count total flag =
-        ran_one t gs before (load_line r off len) (loaded bytes) len r0 r1 p q text (omega (arith, spare, long)) count total (omega (arith, long)) (flag ∙ or_false r0.faulted)
-        (λ told regions shows. ((long, λ its. is (bytes_at regions r) (shows.holds r below its)), shows_same told before (load_line r off len) regions q len goes shows same owed))
-        (counts_same q len goes) goes (omega (arith, short))
+      or_true : (x : Bool) → true ≡ (x || true)
+      or_true true = refl
+      or_true false = refl
 
-    pub ran_load_fault : (len done : ℕ) (f : PageFault) (name : List ℕ) → len ≤ 65536 → GoesOn len p q → HoldsSame p q → ((k : Key) → owes q k ≡ true → owes p k ≡ true) → FaultsAt p q r off len (λ k. ⊥) done f
-        → r1.text.items ≡ r0.text.items ++ reply_text gs (fault f.key f.faults done) → r0.text.spare ≤ r1.text.spare + fault_room gs → r1.loaded ≡ r0.loaded → r1.sum ≡ r0.sum → r1.faulted ≡ true
-        → Ran t gs before (load_line r off len ∷ []) r0 r1 p q
-    ran_load_fault len done f name short goes same owed at text spare count total flag =
-        ran_one t gs before (load_line r off len) (fault f.key f.faults done) len r0 r1 p q text (omega (arith, spare)) (omega (arith, count)) (omega (arith, total)) (omega arith) (flag ∙ or_true r0.faulted)
-        (λ told regions shows. (names_is told before (load_line r off len) regions q len goes shows r off len done (λ k. ⊥) f at (λ k h. absurd h), shows_same told before (load_line r off len) regions q len goes shows same owed))
-        (counts_fault q len r off len done (λ k. ⊥) f goes at) goes (omega (arith, short))
+      pub ran_load : (len : ℕ) (bytes : List ℕ) → length bytes ≡ len → len ≤ 65536 → GoesOn len p q → HoldsSame p q → ((k : Key) → owes q k ≡ true → owes p k ≡ true) → ((b : List ℕ) → HoldsRegion p r b → bytes ≡ take len (drop off b))
+          → r1.text.items ≡ r0.text.items ++ load_reply bytes → r0.text.spare ≤ r1.text.spare + (2 * length bytes + 6) → r1.loaded ≡ r0.loaded + length bytes → r1.sum ≡ r0.sum + sum bytes → r1.faulted ≡ r0.faulted
+          → GoesBy has_noted (loads (pieces_of p.page_size r off len) bytes) [] p q
+          → Ran has_noted t gs before (load_line r off len ∷ []) r0 r1 p q
+      ran_load len bytes long short goes same owed is text spare count total flag by =
+          ran_one has_noted t gs before (load_line r off len) (loaded bytes) len r0 r1 p q text (omega (arith, spare, long)) count total (omega (arith, long)) (flag ∙ or_false r0.faulted)
+          (λ told regions shows. ((long, λ its. is (bytes_at regions r) (shows.holds r below its)), shows_same told before (load_line r off len) regions q len goes shows same owed))
+          (counts_same q len goes) goes (omega (arith, short)) by.made by.went
+          (record {
+            accesses = loads (pieces_of p.page_size r off len) bytes;
+            failure = [];
+            accesses_are = ap (λ z. loads (pieces_of z r off len) bytes) shaped.page_size;
+            failure_is = refl;
+            in_order = made_in (loads (pieces_of p.page_size r off len) bytes) [] by.made by.in_order;
+          })
 
-    module _ (bytes : List ℕ) (short : length bytes ≤ 65536) (goes : GoesOn (length bytes) p q) (others : (k : Key) → has_page p k ≡ true → (k.region ≡ r → ⊥) → held q k ≡ held p k) (owed : (k : Key) → owes q k ≡ true → (owes p k ≡ true) ⊎ StoresTo p.page_size k (store_line r off bytes)) where
-      owed_in : (k : Key) → owes q k ≡ true → (owes p k ≡ true) ⊎ StoresTo t.page_size k (store_line r off bytes)
-      owed_in k e = elim (owed k e) [ inl h ↦ inl h | inr h ↦ inr (subst (λ z. StoresTo z k (store_line r off bytes)) shaped.page_size h) ]
+      pub ran_load_fault : (len done : ℕ) (f : PageFault) → len ≤ 65536 → GoesOn len p q → HoldsSame p q → ((k : Key) → owes q k ≡ true → owes p k ≡ true) → FaultsAt p q r off len (λ k. ⊥) done f
+          → r1.text.items ≡ r0.text.items ++ reply_text gs (fault f.key f.faults done) → r0.text.spare ≤ r1.text.spare + fault_room gs → r1.loaded ≡ r0.loaded → r1.sum ≡ r0.sum → r1.faulted ≡ true
+          → (bytes : List ℕ) → length bytes ≡ done → BreaksOff has_noted (λ k place its. Load k place its) (pieces_of p.page_size r off len) bytes (piece_key p.page_size r (off + done)) done f p q
+          → Ran has_noted t gs before (load_line r off len ∷ []) r0 r1 p q
+      ran_load_fault len done f short goes same owed at text spare count total flag bytes long by =
+          ran_one has_noted t gs before (load_line r off len) (fault f.key f.faults done) len r0 r1 p q text (omega (arith, spare)) (omega (arith, count)) (omega (arith, total)) (omega arith) (flag ∙ or_true r0.faulted)
+          (λ told regions shows. (names_is told before (load_line r off len) regions q len goes shows r off len done (λ k. ⊥) f at (λ k h. absurd h), shows_same told before (load_line r off len) regions q len goes shows same owed))
+          (counts_fault q len r off len done (λ k. ⊥) f goes at) goes (omega (arith, short)) by.goes.made by.goes.went
+          (record {
+            accesses = loads by.pieces bytes;
+            failure = by.failure ∷ [];
+            accesses_are = (by.pieces, bytes, subst (λ z. AreBefore (pieces_of z r off len) done by.pieces) shaped.page_size by.before, long, refl);
+            failure_is = (by.failure, refl, subst (λ z. Fails (piece_key z r (off + done)) f.key f.faults by.failure) shaped.page_size by.fails);
+            in_order = made_in (loads by.pieces bytes) (by.failure ∷ []) by.goes.made by.goes.in_order;
+          })
 
-      pub ran_store : ((b : List ℕ) → HoldsRegion p r b → HoldsRegion q r (spliced b off bytes))
-          → r1.text.items ≡ r0.text.items ++ codes "ok\n" → r0.text.spare ≤ r1.text.spare + 3 → r1.loaded ≡ r0.loaded → r1.sum ≡ r0.sum → r1.faulted ≡ r0.faulted → Ran t gs before (store_line r off bytes ∷ []) r0 r1 p q
-      ran_store done text spare count total flag =
-          ran_one t gs before (store_line r off bytes) ok (length bytes) r0 r1 p q text (omega (arith, spare)) (omega (arith, count)) (omega (arith, total)) (omega arith) (flag ∙ or_false r0.faulted)
-          (λ told regions shows. (tt, shows_stored told before (store_line r off bytes) regions q (length bytes) goes shows r off bytes below others owed_in done))
-          (counts_same q (length bytes) goes) goes (omega (arith, short))
+      module _ (bytes : List ℕ) (short : length bytes ≤ 65536) (goes : GoesOn (length bytes) p q) (others : (k : Key) → has_page p k ≡ true → (k.region ≡ r → ⊥) → held q k ≡ held p k) (owed : (k : Key) → owes q k ≡ true → (owes p k ≡ true) ⊎ StoresTo p.page_size k (store_line r off bytes)) where
+        owed_in : (k : Key) → owes q k ≡ true → (owes p k ≡ true) ⊎ StoresTo t.page_size k (store_line r off bytes)
+        owed_in k e = elim (owed k e) [ inl h ↦ inl h | inr h ↦ inr (subst (λ z. StoresTo z k (store_line r off bytes)) shaped.page_size h) ]
 
-      pub ran_store_fault : (done : ℕ) (f : PageFault) → FaultsAt p q r off (length bytes) (λ k. StoresTo p.page_size k (store_line r off bytes)) done f → ((b : List ℕ) → HoldsRegion p r b → HoldsRegion q r (spliced b off (take done bytes)))
-          → r1.text.items ≡ r0.text.items ++ reply_text gs (fault f.key f.faults done) → r0.text.spare ≤ r1.text.spare + fault_room gs → r1.loaded ≡ r0.loaded → r1.sum ≡ r0.sum → r1.faulted ≡ true → Ran t gs before (store_line r off bytes ∷ []) r0 r1 p q
-      ran_store_fault done f at kept text spare count total flag =
-          ran_one t gs before (store_line r off bytes) (fault f.key f.faults done) (length bytes) r0 r1 p q text (omega (arith, spare)) (omega (arith, count)) (omega (arith, total)) (omega arith) (flag ∙ or_true r0.faulted)
-          (λ told regions shows. (names_is told before (store_line r off bytes) regions q (length bytes) goes shows r off (length bytes) done (λ k. StoresTo p.page_size k (store_line r off bytes)) f at (λ k h. subst (λ z. StoresTo z k (store_line r off bytes)) shaped.page_size h), shows_stored told before (store_line r off bytes) regions q (length bytes) goes shows r off (take done bytes) below others owed_in kept))
-          (counts_fault q (length bytes) r off (length bytes) done (λ k. StoresTo p.page_size k (store_line r off bytes)) f goes at) goes (omega (arith, short))
+        pub ran_store : ((b : List ℕ) → HoldsRegion p r b → HoldsRegion q r (spliced b off bytes))
+            → r1.text.items ≡ r0.text.items ++ codes "ok\n" → r0.text.spare ≤ r1.text.spare + 3 → r1.loaded ≡ r0.loaded → r1.sum ≡ r0.sum → r1.faulted ≡ r0.faulted
+            → GoesBy has_noted (saves (pieces_of p.page_size r off (length bytes)) bytes) [] p q → Ran has_noted t gs before (store_line r off bytes ∷ []) r0 r1 p q
+        ran_store done text spare count total flag by =
+            ran_one has_noted t gs before (store_line r off bytes) ok (length bytes) r0 r1 p q text (omega (arith, spare)) (omega (arith, count)) (omega (arith, total)) (omega arith) (flag ∙ or_false r0.faulted)
+            (λ told regions shows. (tt, shows_stored told before (store_line r off bytes) regions q (length bytes) goes shows r off bytes below others owed_in done))
+            (counts_same q (length bytes) goes) goes (omega (arith, short)) by.made by.went
+            (record {
+              accesses = saves (pieces_of p.page_size r off (length bytes)) bytes;
+              failure = [];
+              accesses_are = ap (λ z. saves (pieces_of z r off (length bytes)) bytes) shaped.page_size;
+              failure_is = refl;
+              in_order = made_in (saves (pieces_of p.page_size r off (length bytes)) bytes) [] by.made by.in_order;
+            })
+
+        pub ran_store_fault : (done : ℕ) (f : PageFault) → FaultsAt p q r off (length bytes) (λ k. StoresTo p.page_size k (store_line r off bytes)) done f → ((b : List ℕ) → HoldsRegion p r b → HoldsRegion q r (spliced b off (take done bytes)))
+            → r1.text.items ≡ r0.text.items ++ reply_text gs (fault f.key f.faults done) → r0.text.spare ≤ r1.text.spare + fault_room gs → r1.loaded ≡ r0.loaded → r1.sum ≡ r0.sum → r1.faulted ≡ true
+            → BreaksOff has_noted (λ k place its. Save k place its) (pieces_of p.page_size r off (length bytes)) bytes (piece_key p.page_size r (off + done)) done f p q → Ran has_noted t gs before (store_line r off bytes ∷ []) r0 r1 p q
+        ran_store_fault done f at kept text spare count total flag by =
+            ran_one has_noted t gs before (store_line r off bytes) (fault f.key f.faults done) (length bytes) r0 r1 p q text (omega (arith, spare)) (omega (arith, count)) (omega (arith, total)) (omega arith) (flag ∙ or_true r0.faulted)
+            (λ told regions shows. (names_is told before (store_line r off bytes) regions q (length bytes) goes shows r off (length bytes) done (λ k. StoresTo p.page_size k (store_line r off bytes)) f at (λ k h. subst (λ z. StoresTo z k (store_line r off bytes)) shaped.page_size h), shows_stored told before (store_line r off bytes) regions q (length bytes) goes shows r off (take done bytes) below others owed_in kept))
+            (counts_fault q (length bytes) r off (length bytes) done (λ k. StoresTo p.page_size k (store_line r off bytes)) f goes at) goes (omega (arith, short)) by.goes.made by.goes.went
+            (record {
+              accesses = saves by.pieces bytes;
+              failure = by.failure ∷ [];
+              accesses_are = (by.pieces, subst (λ z. AreBefore (pieces_of z r off (length bytes)) done by.pieces) shaped.page_size by.before, refl);
+              failure_is = (by.failure, refl, subst (λ z. Fails (piece_key z r (off + done)) f.key f.faults by.failure) shaped.page_size by.fails);
+              in_order = made_in (saves by.pieces bytes) (by.failure ∷ []) by.goes.made by.goes.in_order;
+            })
 
 -- the region of a fault is there
-pub fault_known : (t : Spread) (gs : List Region) (p q : PagerSeen NoJournal) (r off len done : ℕ) (stores : Key → Type 0) (f : PageFault) → IsShaped t gs p → FaultsAt p q r off len stores done f → f.key.region < length gs
+pub fault_known : {J : Type 0} (t : Spread) (gs : List Region) (p q : PagerSeen J) (r off len done : ℕ) (stores : Key → Type 0) (f : PageFault) → IsShaped t gs p → FaultsAt p q r off len stores done f → f.key.region < length gs
 fault_known t gs p q r off len done stores f shaped at = subst (λ n. f.key.region < n) (regions_are t gs p shaped) (go (slice_get p.shapes f.key.region) refl at.page)
   where
     go : (o : Option RegionShape) → slice_get p.shapes f.key.region ≡ o → page_in o f.key.page ≡ true → f.key.region < length p.shapes

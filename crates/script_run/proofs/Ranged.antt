@@ -1,23 +1,28 @@
 -- Ranges on a pager, piece by piece.
-use Rattle.std.proofs.Common.{◌≡◌, ◌⊎◌, inl, inr, ℕ, ◌+◌, ◌*◌, ◌-◌, ◌/◌, ◌%◌, ◌<◌, ◌≤◌, min, true, List, [], ◌++◌, length, take, drop, Option, Some, None, IfSome, slice_get, slice_range, refl, sym, ap, subst, ◌∙◌, arith, rules}
+use Rattle.std.proofs.Common.{◌≡◌, ◌⊎◌, inl, inr, ℕ, suc, ◌+◌, ◌*◌, ◌/◌, ◌%◌, ◌<◌, ◌≤◌, true, List, [], ◌∷◌, ◌++◌, length, map, take, drop, Option, Some, None, IfSome, slice_get, slice_index, slice_range, refl, sym, ap, subst, ◌∙◌, arith, rules, append-nil}
 use Rattle.std.specs.Option.{option_map}
 use Rattle.std.proofs.lemmas.Bool.{cases_lt, cases_eq, lt-ltb}
-use Rattle.std.proofs.lemmas.Nat.{div-add-mod'}
-use Rattle.std.proofs.Math.Nat.{mul-mod_left}
+use Rattle.std.specs.List.{sum_by}
+use Rattle.std.specs.List.Sorted.{IsStrictlyIncreasing}
+use Rattle.std.proofs.lemmas.Nat.{div-mul-add, mod-mul-add}
 use Rattle.std.proofs.lemmas.List.{places, same_lists, take-append-drop}
+use Rattle.std.proofs.lemmas.List.Sums.{sum_by-append, sum_by-cons}
 use Rattle.page_base.specs.ListSeen.{spliced}
 use Rattle.page_base.specs.declared.keys.Key.{Key}
 use Rattle.page_base.specs.declared.keys.RegionShape.{RegionShape}
 use Rattle.page_base.specs.Lanes.{Rose}
 use Rattle.page_base.specs.Pages.{stripe_of}
 use Rattle.page_model.specs.Setups.{pages_of}
+use Rattle.region_table.specs.Covers.{AreJoined, CoversRange, IsPieceAt}
+use Rattle.region_table.specs.Pieces.{pieces_of}
+use Rattle.region_table.specs.declared.pieces.Piece.{Piece}
 use Rattle.store_trait.specs.Memory.{page_of}
 use Rattle.store_trait.proofs.Rows.{rows_apart}
 use Rattle.serial_pager.specs.declared.fault.PageFault.{PageFault}
 use Rattle.serial_pager.specs.Pagers.{PagerSeen, group_in, page_in, has_page, stripe_at, held, owes, count_at, IsPiece, IsSame, HoldsSame, CountsGrow, NamesFault}
 use Rattle.workload_text.specs.Line.{store_line}
 use Rattle.script_run.specs.FitsSerial.{piece_key, StoresTo}
-use Rattle.script_run.specs.Ranges.{pages_at, key_of, Stands, IsRange, HoldsRegion, GoesOn, FaultsAt}
+use Rattle.script_run.specs.Ranges.{pages_at, key_of, IsRange, HoldsRegion, GoesOn, FaultsAt}
 use Rattle.script_run.proofs.Pieces.{take_of_page, length-spliced}
 
 pub page_in_of : (o : Option RegionShape) (page : ℕ) → page < pages_of o → page_in o page ≡ true
@@ -53,67 +58,109 @@ pub same_more : {J : Type 0} (p q z : PagerSeen J) → IsSame p q → IsSame q z
 same_more p q z a b = record { page_size = b.page_size ∙ a.page_size; shapes = b.shapes ∙ a.shapes; stripes = b.stripes ∙ a.stripes; setups = λ s. b.setups s ∙ a.setups s }
 
 pub goes_none : {J : Type 0} (p : PagerSeen J) → GoesOn 0 p p
-goes_none p = record { same = same_none p; spent = omega arith; counts = λ s r. omega arith; stands = λ h. h }
+goes_none p = record { same = same_none p; spent = omega arith; counts = λ s r. omega arith }
 
 pub goes_more : {J : Type 0} (m n : ℕ) (p q z : PagerSeen J) → GoesOn m p q → GoesOn n q z → GoesOn (m + n) p z
 goes_more m n p q z a b = record {
   same = same_more p q z a.same b.same;
   spent = omega (arith, a.spent, b.spent);
   counts = λ s r. omega (arith, a.counts s r, b.counts s r);
-  stands = λ h. b.stands (a.stands h);
 }
 
 pub goes_within : {J : Type 0} (m n : ℕ) (p q : PagerSeen J) → GoesOn m p q → m ≤ n → GoesOn n p q
-goes_within m n p q a le = record { same = a.same; spent = omega (arith, a.spent, le); counts = a.counts; stands = a.stands }
+goes_within m n p q a le = record { same = a.same; spent = omega (arith, a.spent, le); counts = a.counts }
 
-pub one_piece : {J : Type 0} (n : ℕ) (p q : PagerSeen J) → IsSame p q → q.spent ≡ p.spent + 1 → CountsGrow p q → (Stands p → Stands q) → 1 ≤ n → GoesOn n p q
-one_piece n p q s spent counts stands some = record { same = s; spent = omega (arith, spent, some); counts = counts; stands = stands }
+pub one_piece : {J : Type 0} (n : ℕ) (p q : PagerSeen J) → IsSame p q → q.spent ≡ p.spent + 1 → CountsGrow p q → 1 ≤ n → GoesOn n p q
+one_piece n p q s spent counts some = record { same = s; spent = omega (arith, spent, some); counts = counts }
 
 pub held_more : {J : Type 0} (p q z : PagerSeen J) → IsSame p q → HoldsSame p q → HoldsSame q z → HoldsSame p z
 held_more p q z s a b k page = b k (same_page p q s k ∙ page) ∙ a k page
 
 -- ---- where a piece lies
 
--- the next piece of a range: it begins at byte `at`, and has n bytes
-module _ (size off len done n : ℕ) (some : 0 < size) (short : done < len) (is : n ≡ min (size - (off + done) % size) (len - done)) where
-  at_is : (off + done) / size * size + (off + done) % size ≡ off + done
-  at_is = div-add-mod' (off + done) size
+-- a piece of a range of `len` bytes from `off` on, behind pieces of `done` bytes
+pub record IsNext (size region off len done : ℕ) (p : Piece) : Type 0 where
+  pub of_region : p.key.region ≡ region
+  pub begins : p.key.page * size + p.place ≡ off + done
+  pub some : 1 ≤ p.len
+  pub within : p.place + p.len ≤ size
+  pub short : done + p.len ≤ len
+  pub border : (done ≡ 0) ⊎ (p.place ≡ 0)
 
-  pub mod_below : (off + done) % size < size
-  mod_below = omega arith
+-- the bytes of some pieces together
+abbrev pub lengths : List Piece → ℕ
+lengths ps = sum_by (λ (p : Piece). p.len) ps
 
-  pub piece_some : 1 ≤ n
-  piece_some = omega (arith, is, short, mod_below)
+joined_at : (size region off : ℕ) (front : List Piece) (p : Piece) (rest : List Piece) → AreJoined size region off (front ++ p ∷ rest) → IsPieceAt size region (off + lengths front) p
+joined_at size region off [] p rest h = subst (λ n. IsPieceAt size region n p) (omega arith) h.0
+joined_at size region off (q ∷ qs) p rest h = subst (λ n. IsPieceAt size region n p) (omega (arith, sum_by-cons (λ (r : Piece). r.len) q qs)) (joined_at size region (off + q.len) qs p rest h.1)
 
-  pub piece_short : done + n ≤ len
-  piece_short = omega (arith, is, short)
+rest_rises : (x : ℕ) (xs : List ℕ) → IsStrictlyIncreasing (x ∷ xs) → IsStrictlyIncreasing xs
+rest_rises x xs h k below =
+    let next : suc k + 1 ≡ suc (k + 1) = omega arith in
+    subst (λ n. slice_index (x ∷ xs) (suc k) < slice_index (x ∷ xs) n) next (h (suc k) (omega (arith, below)))
 
-  pub piece_within : (off + done) % size + n ≤ size
-  piece_within = omega (arith, is, mod_below)
+at_border : (size region off : ℕ) (front : List Piece) (p : Piece) (rest : List Piece) → AreJoined size region off (front ++ p ∷ rest) → IsStrictlyIncreasing (map (λ (q : Piece). q.key.page) (front ++ p ∷ rest)) → (front ≡ []) ⊎ (p.place ≡ 0)
+at_border size region off [] p rest joined rises = inl refl
+at_border size region off (q ∷ []) p rest joined rises =
+    let first = joined.0 in
+    let next = joined.1.0 in
+    inr (omega (arith, first.begins, first.within, next.begins, rows_apart q.key.page p.key.page size (rises 0 (omega arith))))
+at_border size region off (q ∷ (q2 ∷ qs)) p rest joined rises = elim (at_border size region (off + q.len) (q2 ∷ qs) p rest joined.1 (rest_rises q.key.page (map (λ (r : Piece). r.key.page) ((q2 ∷ qs) ++ p ∷ rest)) rises)) [
+  | inl none ↦ absurd (cc)
+  | inr place ↦ inr place
+]
 
-  pub next_border : (done + n ≡ 0) ⊎ (((off + (done + n)) % size ≡ 0) ⊎ (done + n ≡ len))
-  next_border = elim (cases_lt (len - done) (size - (off + done) % size)) [
-    | inl last ↦ inr (inr (omega (arith, is, last, short)))
-    | inr full ↦ inr (inl (border (omega (arith, is, full))))
+pub next_piece : (size region off len done : ℕ) (front : List Piece) (p : Piece) (rest : List Piece) → CoversRange size region off len (pieces_of size region off len) → pieces_of size region off len ≡ front ++ p ∷ rest → lengths front ≡ done → IsNext size region off len done p
+next_piece size region off len done front p rest covers is sum =
+    let joined : AreJoined size region off (front ++ p ∷ rest) = subst (AreJoined size region off) is covers.joined in
+    let at : IsPieceAt size region (off + lengths front) p = joined_at size region off front p rest joined in
+    let total : lengths (front ++ p ∷ rest) ≡ len = ap lengths (sym is) ∙ covers.lengths in
+    record {
+      of_region = at.of_region;
+      begins = omega (arith, at.begins, sum);
+      some = at.some;
+      within = at.within;
+      short = omega (arith, total, sum, sum_by-append (λ (r : Piece). r.len) front (p ∷ rest), sum_by-cons (λ (r : Piece). r.len) p rest);
+      border = elim (at_border size region off front p rest joined (subst (λ ps. IsStrictlyIncreasing (map (λ (q : Piece). q.key.page) ps)) is covers.rising)) [
+        | inl none ↦ inl (sym sum ∙ ap lengths none)
+        | inr place ↦ inr place
+      ];
+    }
+
+-- behind all pieces all bytes are done
+pub all_done : (size region off len done : ℕ) (front : List Piece) → CoversRange size region off len (pieces_of size region off len) → pieces_of size region off len ≡ front ++ [] → lengths front ≡ done → done ≡ len
+all_done size region off len done front covers is sum = sym sum ∙ ap lengths (sym (is ∙ append-nil front)) ∙ covers.lengths
+
+module _ (size region off len done : ℕ) (piece : Piece) (next : IsNext size region off len done piece) where
+  place_below : piece.place < size
+  place_below = omega (arith, next.some, next.within)
+
+  pub key_is : piece.key ≡ key_of region piece.key.page
+  key_is = ap (λ r. key_of r piece.key.page) next.of_region
+
+  -- the piece begins at byte `off + done` of the region
+  pub page_is : (off + done) / size ≡ piece.key.page
+  page_is = ap (λ n. n / size) (sym next.begins) ∙ div-mul-add piece.key.page size piece.place place_below
+
+  pub border_is : (done ≡ 0) ⊎ ((off + done) % size ≡ 0)
+  border_is = elim next.border [
+    | inl e ↦ inl e
+    | inr e ↦ inr (ap (λ n. n % size) (sym next.begins) ∙ mod-mul-add piece.key.page size piece.place place_below ∙ e)
   ]
-    where
-      border : n ≡ size - (off + done) % size → (off + (done + n)) % size ≡ 0
-      border e =
-          let sum : off + (done + n) ≡ ((off + done) / size + 1) * size = omega (arith, e, mod_below, at_is) in
-          ap (λ m. m % size) sum ∙ mul-mod_left ((off + done) / size + 1) size
 
-  module _ {J : Type 0} (p q : PagerSeen J) (region : ℕ) (range : IsRange p region off len) (s : IsSame p q) (sized : p.page_size ≡ size) where
-    pub page_below : (off + done) / size < pages_at p region
-    page_below = row_below ((off + done) / size) (pages_at p region) size ((off + done) % size) (omega (arith, at_is, short, range.inside, ap (λ z. pages_at p region * z) sized))
+  module _ {J : Type 0} (p q : PagerSeen J) (range : IsRange p region off len) (s : IsSame p q) (sized : p.page_size ≡ size) where
+    pub page_below : piece.key.page < pages_at p region
+    page_below = row_below piece.key.page (pages_at p region) size piece.place (omega (arith, next.begins, next.short, next.some, range.inside, ap (λ z. pages_at p region * z) sized))
 
-    pub has_piece : has_page p (key_of region ((off + done) / size)) ≡ true
-    has_piece = page_in_of (slice_get p.shapes region) ((off + done) / size) page_below
+    pub has_piece : has_page p piece.key ≡ true
+    has_piece = ap (has_page p) key_is ∙ page_in_of (slice_get p.shapes region) piece.key.page page_below
 
-    pub is_piece : IsPiece q (key_of region ((off + done) / size)) ((off + done) % size) n
+    pub is_piece : IsPiece q piece.key piece.place piece.len
     is_piece = record {
-      page = same_page p q s (key_of region ((off + done) / size)) ∙ has_piece;
-      some = piece_some;
-      within = subst (λ z. (off + done) % size + n ≤ z) (sym (s.page_size ∙ sized)) piece_within;
+      page = same_page p q s piece.key ∙ has_piece;
+      some = next.some;
+      within = subst (λ z. piece.place + piece.len ≤ z) (sym (s.page_size ∙ sized)) next.within;
     }
 
 -- ---- faults
@@ -121,14 +168,16 @@ module _ (size off len done n : ℕ) (some : 0 < size) (short : done < len) (is 
 rose_from : (a b n : ℕ) → a ≤ b → Rose b n → Rose a n
 rose_from a b n le rose = omega (arith, le, rose)
 
-pub faults_at : {J : Type 0} (p q z : PagerSeen J) (region off len done size : ℕ) (stores : Key → Type 0) (f : PageFault) → GoesOn done p q → ((k : Key) → owes q k ≡ true → (owes p k ≡ true) ⊎ stores k) → p.page_size ≡ size → done < len
-    → (done ≡ 0) ⊎ (((off + done) % p.page_size ≡ 0) ⊎ (done ≡ len)) → NamesFault (key_of region ((off + done) / size)) q z f → FaultsAt p z region off len stores done f
-faults_at p q z region off len done size stores f goes owed sized short border names =
+pub faults_at : {J : Type 0} (p q z : PagerSeen J) (region off len done size : ℕ) (piece : Piece) (stores : Key → Type 0) (f : PageFault) → IsNext size region off len done piece → GoesOn done p q → ((k : Key) → owes q k ≡ true → (owes p k ≡ true) ⊎ stores k) → p.page_size ≡ size → NamesFault piece.key q z f → FaultsAt p z region off len stores done f
+faults_at p q z region off len done size piece stores f next goes owed sized names =
     let key : Key = piece_key p.page_size region (off + done) in
-    let its : key_of region ((off + done) / size) ≡ key = ap (λ n. key_of region ((off + done) / n)) (sym sized) in
-    let to : stripe_at q (key_of region ((off + done) / size)) ≡ stripe_at p f.key = sym names.stripe ∙ same_stripe p q goes.same f.key in
+    let its : piece.key ≡ key = key_is size region off len done piece next ∙ ap (key_of region) (sym (page_is size region off len done piece next)) ∙ ap (λ n. key_of region ((off + done) / n)) (sym sized) in
+    let to : stripe_at q piece.key ≡ stripe_at p f.key = sym names.stripe ∙ same_stripe p q goes.same f.key in
     record {
-      ends = record { short = short; border = elim border [ inl e ↦ inl e | inr more ↦ elim more [ inl e ↦ inr e | inr e ↦ absurd (omega (arith, e, short)) ] ] };
+      ends = record {
+        short = omega (arith, next.some, next.short);
+        border = subst (λ n. (done ≡ 0) ⊎ ((off + done) % n ≡ 0)) (sym sized) (border_is size region off len done piece next);
+      };
       page = sym (same_page p q goes.same f.key) ∙ names.page;
       stripe = sym to ∙ ap (stripe_at q) its ∙ same_stripe p q goes.same key;
       whose = elim names.whose [ inl e ↦ inl (e ∙ its) | inr e ↦ inr (owed f.key e) ];

@@ -1,7 +1,7 @@
 -- Lanes over zeros, as the lanes of a workload.
-use Rattle.std.proofs.Common.{◌≡◌, ◌≢◌, ℕ, zero, suc, ◌+◌, ◌*◌, ◌/◌, ◌%◌, ◌<◌, ◌≤◌, Bool, true, ◌&&◌, inl, inr, eqb, List, [], ◌∷◌, ◌++◌, length, take, drop, map, set, replicate, get_or, Option, Some, refl, sym, ap, subst, ◌∙◌, arith, append-nil, append_assoc, length-append, length-set, get_or-set_same, get_or-set_other}
+use Rattle.std.proofs.Common.{◌≡◌, ◌≢◌, ℕ, zero, suc, ◌+◌, ◌*◌, ◌/◌, ◌%◌, ◌<◌, ◌≤◌, true, inl, inr, eqb, List, [], ◌∷◌, ◌++◌, length, take, drop, map, set, replicate, get_or, Option, Some, refl, sym, ap, subst, ◌∙◌, arith, append-nil, append_assoc, length-append, length-set, get_or-set_same, get_or-set_other}
 use Rattle.std.specs.Option.{unwrap_or}
-use Rattle.std.specs.List.{flat_map, list_all, enumerate_from}
+use Rattle.std.specs.List.{flat_map, enumerate_from}
 use Rattle.std.proofs.lemmas.Bool.{and_from, and_parts, lt-ltb, eq-eqb, eqb-true, cases_lt}
 use Rattle.std.proofs.lemmas.List.{get_or-map, length-map, length-replicate, get_or-replicate, take_all, take_more, length-take-le, map-set, map-append}
 use Rattle.std.proofs.Math.Seq.{get_or-append_seam}
@@ -197,12 +197,6 @@ pub record PutsSome (lanes left : List MemLane) (old new : List (List LaneSeen))
   pub front : (s : ℕ) → s < length left → get_or new s [] ≡ get_or old s []
   pub back : (s : ℕ) → length left ≤ s → s < length old → get_or new s [] ≡ get_or old s [] ++ get_or (map lane_seen lanes) s no_lane ∷ []
 
-pub puts_begin : (lanes : List MemLane) (rows : List (List LaneSeen)) → length lanes ≡ length rows → PutsSome lanes lanes rows rows
-puts_begin lanes rows e = record { done = []; all = sym (append-nil lanes); count = refl; front = λ s below. refl; back = λ s past below. absurd (omega arith) }
-
-pub puts_end : (lanes left : List MemLane) (old new : List (List LaneSeen)) → left ≡ [] → PutsSome lanes left old new → PutsLanes (map lane_seen lanes) old new
-puts_end lanes left old new none puts = record { count = puts.count; each = λ s below. puts.back s (omega (arith, ap (length {A = MemLane}) none)) below }
-
 module _ (lanes left rest : List MemLane) (lane : MemLane) (old : List (List LaneSeen)) (rows : List (ListSeen MemLane)) (row more : ListSeen MemLane) (k : ℕ) (is : left ≡ rest ++ lane ∷ []) (at : k ≡ length rest) (below : k < length rows) (here : row ≡ get_or rows k row) (put : more.items ≡ row.items ++ lane ∷ []) (puts : PutsSome lanes left old (rows_in rows)) where
   left_len : length left ≡ k + 1
   left_len = ap length is ∙ length-append rest (lane ∷ []) ∙ omega arith
@@ -247,8 +241,3 @@ module _ (lanes left rest : List MemLane) (lane : MemLane) (old : List (List Lan
           subst (λ (q : ℕ). get_or (rows_in (set rows k more)) q [] ≡ get_or old q [] ++ get_or (map lane_seen lanes) q no_lane ∷ []) (sym e) changed
     ];
   }
-
--- whole pages, by the `map` lines
-pub whole_maps : (z : ℕ) (ms : List MapLine) → list_all (λ (m : MapLine). eqb (m.length % z) 0) ms ≡ has_whole_pages z (map region ms)
-whole_maps z [] = refl
-whole_maps z (m ∷ ms) = ap (λ (b : Bool). eqb (m.length % z) 0 && b) (whole_maps z ms)

@@ -2,11 +2,14 @@ pub mod Serial
 pub mod Contents
 pub mod Fits
 pub mod Tables
+pub mod RegionRules
 pub mod Zeros
 pub mod Streams
 pub mod Rooms
 pub mod Replies
 pub mod FitsSerial
+pub mod LineEntries
+pub mod FitsJournals
 pub mod FitsLaws
 pub mod Ranges
 pub mod Running

@@ -1,16 +1,17 @@
--- Ranges of a region's bytes on a pager: what a load or a store of one asks for, and how it fails.
-use Rattle.std.specs.Prelude.{◌≡◌, ℕ, ◌+◌, ◌*◌, ◌^◌, ◌<◌, ◌≤◌, ◌⊎◌, true, List, length, slice_get, Some}
+-- Ranges of a region's bytes on a pager: what a load or a store of one asks for, what it makes, and how it fails.
+use Rattle.std.specs.Prelude.{◌≡◌, ℕ, ◌+◌, ◌*◌, ◌^◌, ◌<◌, ◌≤◌, ◌⊎◌, true, List, [], ◌∷◌, length, slice_get, slice_index, Some}
 use Rattle.page_base.specs.declared.keys.Key.{Key}
 use Rattle.page_base.specs.Lanes.{Rose}
 use Rattle.histories.specs.Histories.{History}
 use Rattle.page_model.specs.declared.entry.Entry.{Entry}
-use Rattle.page_model.specs.Core.{Core}
 use Rattle.page_model.specs.Setups.{pages_of}
-use Rattle.page_model.specs.Stands.{StandsFor}
+use Rattle.region_table.specs.declared.pieces.Piece.{Piece}
+use Rattle.region_table.specs.Regions.{TableSeen, lengths_of}
 use Rattle.store_trait.specs.Memory.{page_of}
 use Rattle.serial_pager.specs.declared.fault.PageFault.{PageFault}
-use Rattle.serial_pager.specs.Pagers.{PagerSeen, core_at, has_page, stripe_at, held, owes, count_at, IsSame, CountsGrow}
+use Rattle.serial_pager.specs.Pagers.{PagerSeen, has_page, stripe_at, held, owes, count_at, IsSame, CountsGrow, WentAll}
 use Rattle.script_run.specs.FitsSerial.{EndsAt, piece_key}
+use Rattle.script_run.specs.LineEntries.{AreBefore, Fails, MakesInOrder, accesses_by}
 
 abbrev pub key_of : (region page : ℕ) → Key
 key_of region page = record { region = region; page = page }
@@ -30,16 +31,18 @@ module _ {J : Type 0} where
     pub whole : length bytes ≡ pages_at p region * p.page_size
     pub each : (page : ℕ) → page < pages_at p region → held p (key_of region page) ≡ Some (page_of p.page_size bytes page)
 
-  -- each stripe stands for some history
-  abbrev pub Stands : PagerSeen J → Type 0
-  Stands p = (s : ℕ) (c : Core) → core_at p s ≡ Some c → (h : History Entry) × StandsFor h c
+  -- the table has the range's region, with pages of the pager's size
+  pub record IsListed (p : PagerSeen J) (table : TableSeen) (region off len : ℕ) : Type 0 where
+    pub page_size : table.page_size ≡ p.page_size
+    pub some : 0 < p.page_size
+    pub known : region < length table.regions
+    pub ends : off + len ≤ slice_index (lengths_of table) region
 
   -- what no access changes, and no more pieces than bytes
   pub record GoesOn (len : ℕ) (old new : PagerSeen J) : Type 0 where
     pub same : IsSame old new
     pub spent : new.spent ≤ old.spent + len
     pub counts : CountsGrow old new
-    pub stands : Stands old → Stands new
 
   -- the access ended at a piece with this fault; a page that the fault names may have had to be written, or was stored to
   pub record FaultsAt (old new : PagerSeen J) (region off len : ℕ) (stores : Key → Type 0) (done : ℕ) (f : PageFault) : Type 0 where
@@ -49,3 +52,17 @@ module _ {J : Type 0} where
     pub whose : (f.key ≡ piece_key old.page_size region (off + done)) ⊎ ((owes old f.key ≡ true) ⊎ stores f.key)
     pub rose : Rose (count_at old (stripe_at old f.key) f.key.region) f.faults
     pub within : f.faults ≤ count_at new (stripe_at old f.key) f.key.region
+
+  -- the stripes made these accesses in order, and then this failure
+  pub record GoesBy (has_noted : J → History Entry → Type 0) (accesses failure : List Entry) (old new : PagerSeen J) : Type 0 where
+    pub made : ℕ → List Entry
+    pub in_order : MakesInOrder (stripe_at old) accesses failure made
+    pub went : WentAll has_noted made old new
+
+  -- an access with these pieces and bytes made the accesses of those before the one that failed, and then the failure
+  pub record BreaksOff (has_noted : J → History Entry → Type 0) (access : Key → (place : ℕ) → List ℕ → Entry) (all : List Piece) (bytes : List ℕ) (ended : Key) (done : ℕ) (f : PageFault) (old new : PagerSeen J) : Type 0 where
+    pub pieces : List Piece
+    pub before : AreBefore all done pieces
+    pub failure : Entry
+    pub fails : Fails ended f.key f.faults failure
+    pub goes : GoesBy has_noted (accesses_by access pieces bytes) (failure ∷ []) old new

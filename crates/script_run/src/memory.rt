@@ -1,24 +1,19 @@
 //! The lanes of a workload whose regions are kept in memory, all zeros at first.
-ghost use Rattle.std.specs.Prelude.{◌≡◌, ◌<◌, ◌≤◌, ◌*◌, ◌/◌, ◌%◌, ◌==◌, ◌∷◌, [], true, map, sum, sum_by, nat_le, length, replicate, All, IfOk, OnOk};
-ghost use Rattle.std.specs.List.{list_all};
+ghost use Rattle.std.specs.Prelude.{◌≡◌, ◌<◌, ◌≤◌, ◌*◌, ◌/◌, [], true, map, length, replicate, IfOk, OnOk};
 ghost use Rattle.store_trait.specs.MemLanes.{lane_seen, AreLanesOf};
 ghost use Rattle.workload_text.specs.View.{region, lines_of};
 ghost use Rattle.workload_text.specs.Built.{is_built};
 ghost use Rattle.workload_text.specs.Accepted.{IsRunnable, regions_of};
 ghost use Rattle.script_run.specs.Serial.{zeros_of};
 ghost use Rattle.script_run.specs.Contents.{rows_in, rows_seen, contents_of};
-ghost use Rattle.script_run.specs.Fits.{FitLanes, has_whole_pages, pages_of};
-ghost use Rattle.script_run.specs.Running.{shape_of};
+ghost use Rattle.script_run.specs.Fits.{FitLanes, has_whole_pages};
 ghost use Rattle.script_run.specs.Zeros.{AreSmall, PutsLanes, AreZeroRows};
 
 use crate::settings::Settings;
-use page_base::{Bytes, Layout, List, OutOfMemory, RegionShape};
+use page_base::{Bytes, Layout, List, OutOfMemory};
 use std::alloc::Global;
 use store_trait::{LaneSet, MemLane, MemStore};
 use workload_text::{MapLine, Workload};
-
-/// The most pages of a page table.
-const MOST_PAGES: u64 = 1_048_576;
 
 /// So many stripes without a lane.
 fn empty_rows(alloc: Global, stripes: usize) -> Result<Vec<List<MemLane>>, OutOfMemory>
@@ -117,65 +112,4 @@ pub fn memory_lanes(
     Ok(LaneSet {
         stripes: List::from_vec(rows),
     })
-}
-
-fn are_whole(maps: &[MapLine], page_size: u64) -> bool
-    requires { 0 < page_size }
-    ensures { result ≡ list_all (λ map. map.length % page_size == 0) maps.now }
-{
-    maps.iter().all(|map| map.length % page_size == 0)
-}
-
-/// Whether each region is a number of whole pages.
-pub fn pages_are_whole(workload: &Workload, page_size: u32) -> bool
-    requires { 0 < page_size }
-    ensures { result ≡ has_whole_pages page_size (regions_of (lines_of workload.now)) }
-{
-    are_whole(workload.maps.as_slice(), u64::from(page_size))
-}
-
-fn are_few(maps: &[MapLine], page_size: u64) -> bool
-    requires { 0 < page_size }
-    ensures { result ≡ nat_le (sum_by (λ map. map.length / page_size) maps.now) 1048576 }
-{
-    let mut total = 0u64;
-    for map in maps {
-        let pages = map.length / page_size;
-        if pages > MOST_PAGES - total {
-            return false;
-        }
-        total += pages;
-    }
-    true
-}
-
-/// Whether all regions together have no more pages than a page table holds, 1048576.
-pub fn pages_are_few(workload: &Workload, page_size: u32) -> bool
-    requires { 0 < page_size }
-    ensures { result ≡ nat_le (sum (pages_of page_size (regions_of (lines_of workload.now)))) 1048576 }
-{
-    are_few(workload.maps.as_slice(), u64::from(page_size))
-}
-
-/// The shape of each region.
-pub(crate) fn shapes_of(
-    alloc: Global,
-    workload: &Workload,
-    page_size: u32,
-) -> Result<List<RegionShape>, OutOfMemory>
-    requires some { 0 < page_size }
-    requires small { All (λ m. m.length ≤ 16777216) workload.now.maps.items }
-    ensures { IfOk result (λ shapes. shapes.items ≡ map (shape_of page_size) (regions_of (lines_of workload.now))) }
-{
-    let maps = workload.maps.as_slice();
-    let mut shapes = List::new(alloc);
-    shapes.reserve(maps.len())?;
-    for map in maps {
-        shapes.put(RegionShape {
-            pages: (map.length / u64::from(page_size)) as u32,
-            group: 1,
-            writable: map.writable,
-        });
-    }
-    Ok(shapes)
 }

@@ -1,28 +1,32 @@
 //! A serial run: every script of a workload, one after another, in file order. A fault of a store ends its line alone.
 //!
-//! All memory is taken before the first line runs, so the only refusal comes at opening, and hands the lanes back.
-ghost use Rattle.std.specs.Prelude.{◌≡◌, ◌+◌, ◌<◌, ◌≤◌, ◌||◌, ◌∷◌, ◌++◌, [], List, true, length, sum, IfOk, IfErr};
-ghost use Rattle.serial_pager.specs.Pagers.{rows_of};
-ghost use Rattle.workload_text.specs.Line.{Line};
+//! All memory is taken before the first line runs, so the only refusal comes at opening: it hands the lanes back, and leaves
+//! the journals in their list.
+ghost use Rattle.std.specs.Prelude.{◌≡◌, ◌+◌, ◌<◌, ◌≤◌, ◌||◌, ◌∷◌, ◌++◌, [], ℕ, Some, true, length, map, slice_get, IfOk, IfErr};
+ghost use Rattle.serial_pager.specs.Pagers.{rows_of, journals_made};
 ghost use Rattle.workload_text.specs.View.{lines_of, script_lines, command_line};
 ghost use Rattle.workload_text.specs.Grammar.{name_at};
 ghost use Rattle.workload_text.specs.Built.{is_built};
 ghost use Rattle.workload_text.specs.Accepted.{IsRunnable, regions_of};
 ghost use Rattle.script_run.specs.Contents.{origins_of};
-ghost use Rattle.script_run.specs.Fits.{FitLanes, AreInRange, pages_of};
+ghost use Rattle.script_run.specs.Fits.{FitLanes, AreInRange};
+ghost use Rattle.script_run.specs.FitsJournals.{FitsJournals};
 ghost use Rattle.script_run.specs.Ends.{end_of, lanes_in};
 ghost use Rattle.script_run.specs.Replies.{fault_reply};
 ghost use Rattle.script_run.specs.Rooms.{fault_room};
 ghost use Rattle.script_run.specs.FitsSerial.{Spread, spread_of, FitsSerial};
 ghost use Rattle.script_run.specs.Running.{IsShaped, MayRun, Ran};
+ghost use Rattle.script_run.specs.Tables.{table_of};
 
 use crate::access::{load, store};
-use crate::opening::open_pager;
+use crate::opening::{open_pager, put_journals};
 use crate::replies::{MOST_ACCESS, Replies};
 use crate::rooms::room_of;
 use crate::settings::Settings;
-use page_base::Bytes;
-use page_model::NoJournal;
+use page_base::{Bytes, List};
+use page_model::Journal;
+use page_model::events::service_knows;
+use region_table::RegionTable;
 use serial_pager::{PageFault, SerialPager};
 use std::alloc::Global;
 use store_trait::{LaneSet, Store};
@@ -42,27 +46,30 @@ fn tell_fault(replies: &mut Replies, workload: &Workload, fault: &PageFault)
     replies.fault(map.name.as_slice(), fault.key.page, fault.faults);
 }
 
-fn run_command<S: Store>(
+fn run_command<S: Store, J: Journal>(
     replies: &mut Replies,
-    pager: &mut SerialPager<S, NoJournal>,
+    pager: &mut SerialPager<S, J>,
     buf: &mut [u8],
     workload: &Workload,
+    table: &RegionTable,
     command: &Command,
 )
     requires wide { length buf.old ≡ 65536 }
+    requires table { table.now ≡ table_of pager.old.page_size (lines_of workload.now) }
     requires may { (t : Spread) × MayRun t (regions_of (lines_of workload.now)) (command_line command.now ∷ []) replies.old pager.old }
-    ensures { (t : Spread) (before : List Line) → IsShaped t (regions_of (lines_of workload.now)) pager.old → Ran t (regions_of (lines_of workload.now)) before (command_line command.now ∷ []) replies.old replies.new pager.old pager.new }
+    ensures ran { (t : Spread) (before : _) → IsShaped t (regions_of (lines_of workload.now)) pager.old → Ran J.has_noted t (regions_of (lines_of workload.now)) before (command_line command.now ∷ []) replies.old replies.new pager.old pager.new }
+    ensures journals { journals_made J.made_with pager.new ≡ journals_made J.made_with pager.old }
 {
     match command {
         Command::Load { region, off, len } => {
             let bytes = &mut buf[..*len as usize];
-            match load(pager, *region, *off, bytes) {
+            match load(pager, table, *region, *off, bytes) {
                 Ok(()) => replies.load(bytes),
                 Err(fault) => tell_fault(replies, workload, &fault),
             }
         }
         Command::Store { region, off, bytes } => {
-            match store(pager, *region, *off, bytes.as_slice()) {
+            match store(pager, table, *region, *off, bytes.as_slice()) {
                 Ok(()) => replies.ok(),
                 Err(fault) => tell_fault(replies, workload, &fault),
             }
@@ -78,37 +85,43 @@ fn run_command<S: Store>(
     }
 }
 
-fn run_script<S: Store>(
+fn run_script<S: Store, J: Journal>(
     replies: &mut Replies,
-    pager: &mut SerialPager<S, NoJournal>,
+    pager: &mut SerialPager<S, J>,
     buf: &mut [u8],
     workload: &Workload,
+    table: &RegionTable,
     script: &Script,
 )
     requires wide { length buf.old ≡ 65536 }
+    requires table { table.now ≡ table_of pager.old.page_size (lines_of workload.now) }
     requires may { (t : Spread) × MayRun t (regions_of (lines_of workload.now)) (script_lines script.now) replies.old pager.old }
-    ensures { (t : Spread) (before : List Line) → IsShaped t (regions_of (lines_of workload.now)) pager.old → Ran t (regions_of (lines_of workload.now)) before (script_lines script.now) replies.old replies.new pager.old pager.new }
+    ensures ran { (t : Spread) (before : _) → IsShaped t (regions_of (lines_of workload.now)) pager.old → Ran J.has_noted t (regions_of (lines_of workload.now)) before (script_lines script.now) replies.old replies.new pager.old pager.new }
+    ensures journals { journals_made J.made_with pager.new ≡ journals_made J.made_with pager.old }
 {
     replies.script(script.name.as_slice());
     let commands = script.commands.as_slice();
     for i in 0..commands.len() {
-        run_command(replies, pager, buf, workload, &commands[i]);
+        run_command(replies, pager, buf, workload, table, &commands[i]);
     }
 }
 
-fn run_scripts<S: Store>(
+fn run_scripts<S: Store, J: Journal>(
     replies: &mut Replies,
-    pager: &mut SerialPager<S, NoJournal>,
+    pager: &mut SerialPager<S, J>,
     buf: &mut [u8],
     workload: &Workload,
+    table: &RegionTable,
 )
     requires wide { length buf.old ≡ 65536 }
+    requires table { table.now ≡ table_of pager.old.page_size (lines_of workload.now) }
     requires may { (t : Spread) × MayRun t (regions_of (lines_of workload.now)) (lines_of workload.now) replies.old pager.old }
-    ensures { (t : Spread) → IsShaped t (regions_of (lines_of workload.now)) pager.old → Ran t (regions_of (lines_of workload.now)) [] (lines_of workload.now) replies.old replies.new pager.old pager.new }
+    ensures ran { (t : Spread) → IsShaped t (regions_of (lines_of workload.now)) pager.old → Ran J.has_noted t (regions_of (lines_of workload.now)) [] (lines_of workload.now) replies.old replies.new pager.old pager.new }
+    ensures journals { journals_made J.made_with pager.new ≡ journals_made J.made_with pager.old }
 {
     let scripts = workload.scripts.as_slice();
     for i in 0..scripts.len() {
-        run_script(replies, pager, buf, workload, &scripts[i]);
+        run_script(replies, pager, buf, workload, table, &scripts[i]);
     }
 }
 
@@ -139,24 +152,32 @@ fn is_faulted(replies: &Replies, failed: bool) -> bool
 }
 
 /// Runs the scripts one after another over these lanes, for whatever they hold at first, and writes all dirty pages at the
-/// end. The settings' layout says how pages are spread. A page table holds 1048576 pages: `pages_are_few` is the test.
+/// end. The settings' layout says how pages are spread; `table` is the table of the workload's regions. Each entry of a
+/// stripe's history is noted in the stripe's journal, by owner 0.
 ///
 /// Where a call of a store fails, the line that needed it is answered with a fault, and the next line runs. Where none did,
 /// the text and what the lanes hold afterwards are those of the serial meaning: `laws::without_faults`.
-pub fn serial<S: Store>(
+pub fn serial<S: Store, J: Journal>(
     alloc: Global,
     settings: &Settings,
     workload: &Workload,
+    table: RegionTable,
     lanes: LaneSet<S>,
+    journals: &mut List<J>,
 ) -> Result<SerialEnd<S>, RunBack<S>>
     requires runnable { IsRunnable (lines_of workload.now) }
     requires built { is_built (lines_of workload.now) ≡ true }
-    requires pages { sum (pages_of settings.now.layout.page_size (regions_of (lines_of workload.now))) ≤ 1048576 }
     requires settings { AreInRange settings.now }
+    requires table { table ≡ table_of settings.now.layout.page_size (lines_of workload.now) }
     requires lanes { FitLanes settings.now.layout (regions_of (lines_of workload.now)) (rows_of S.seen lanes) }
-    ensures fits { IfOk result (λ e. FitsSerial (spread_of settings.now.layout) (lines_of workload.now) (rows_of S.seen lanes) (rows_of S.seen e.lanes) (end_of e)) }
+    requires journals { length journals.old.items ≡ settings.now.layout.stripes }
+    requires empty { (s : ℕ) (journal : J) → slice_get journals.old.items s ≡ Some journal → J.has_noted journal [] }
+    // what the lines answer and leave, and what the journals have noted of it
+    ensures fits { IfOk result (λ e. (run : FitsSerial (spread_of settings.now.layout) (lines_of workload.now) (rows_of S.seen lanes) (rows_of S.seen e.lanes) (end_of e)) × FitsJournals J.has_noted settings.now table (lines_of workload.now) (rows_of S.seen lanes) (rows_of S.seen e.lanes) run.replies run.failed journals.new.items) }
     ensures origins { IfOk result (λ e. origins_of (rows_of S.seen e.lanes) ≡ origins_of (rows_of S.seen lanes)) }
+    ensures journals { IfOk result (λ e. map J.made_with journals.new.items ≡ map J.made_with journals.old.items) }
     ensures back { IfErr result (λ back. rows_of S.seen (lanes_in back) ≡ rows_of S.seen lanes) }
+    ensures unchanged { IfErr result (λ back. journals.new.items ≡ journals.old.items) }
 {
     let Some(room) = room_of(workload) else {
         return Err(RunBack::OutOfMemory { lanes });
@@ -167,13 +188,22 @@ pub fn serial<S: Store>(
     let Ok(mut buf) = vec![in alloc; 0u8; MOST_ACCESS] else {
         return Err(RunBack::OutOfMemory { lanes });
     };
-    let mut pager = match open_pager(alloc, settings, workload, lanes) {
+    let mut pager = match open_pager(alloc, settings, &table, lanes, journals) {
         Ok(pager) => pager,
         Err(lanes) => return Err(RunBack::OutOfMemory { lanes }),
     };
-    run_scripts(&mut replies, &mut pager, buf.as_mut_slice(), workload);
+    run_scripts(
+        &mut replies,
+        &mut pager,
+        buf.as_mut_slice(),
+        workload,
+        &table,
+    );
     let failed = pager.write_dirty();
-    let (lanes, _) = pager.into_parts();
+    pager.unowed_is_kept();
+    service_knows();
+    let (lanes, noted) = pager.into_parts();
+    put_journals(journals, noted);
     let faulted = is_faulted(&replies, failed);
     let loaded = replies.loaded;
     let sum = replies.sum;

@@ -1,18 +1,35 @@
 //! Workloads with their texts, over several layouts and settings, and over lanes that fail.
-ghost use Rattle.std.specs.Prelude.{◌≡◌};
+ghost use Rattle.std.specs.Prelude.{◌≡◌, ℕ, [], length, slice_get, Some, true};
 ghost use Rattle.serial_pager.specs.Pagers.{rows_of};
+ghost use Rattle.workload_text.specs.Accepted.{IsRunnable, regions_of};
+ghost use Rattle.workload_text.specs.Built.{is_built};
+ghost use Rattle.workload_text.specs.View.{lines_of};
 ghost use Rattle.script_run.specs.Contents.{origins_of};
-ghost use Rattle.script_run.specs.Fits.{AreInRange};
+ghost use Rattle.script_run.specs.Fits.{AreInRange, has_whole_pages};
+ghost use Rattle.script_run.specs.Tables.{table_of};
 
-use crate::{SerialEnd, Settings, memory_lanes, pages_are_few, pages_are_whole, serial};
+use crate::{
+    RegionKind, RegionRefusal, SerialEnd, Settings, TableFault, memory_lanes, serial, table_of_maps,
+};
 use page_base::{Layout, List};
+use page_model::{Journal, NoJournal, Note};
+use region_table::RegionTable;
 use std::process::Abort;
 use store_trait::{FailLane, LaneSet, MemLane, Store};
-use workload_text::{is_built, parse};
+use workload_text::{Workload, is_built, parse};
 
-/// Runs a text that is accepted.
-fn answer_in(rt: &(impl Abort + AllocGlobal), settings: &Settings, text: &str) -> SerialEnd<MemLane>
-    requires { AreInRange settings.now }
+/// A workload that may run, and the table of its regions.
+struct Accepted {
+    workload: Workload,
+    table: RegionTable,
+}
+
+/// What a text gives that is accepted, with pages of the layout.
+fn accept(rt: &(impl Abort + AllocGlobal), layout: &Layout, text: &str) -> Accepted
+    ensures runnable { IsRunnable (lines_of result.workload) }
+    ensures built { is_built (lines_of result.workload) ≡ true }
+    ensures table { result.table ≡ table_of layout.now.page_size (lines_of result.workload) }
+    ensures whole { has_whole_pages layout.now.page_size (regions_of (lines_of result.workload)) ≡ true }
 {
     let Ok(parsed) = parse(rt.alloc(), text.as_bytes()) else {
         panic!(rt; "refused: {text}");
@@ -20,16 +37,40 @@ fn answer_in(rt: &(impl Abort + AllocGlobal), settings: &Settings, text: &str) -
     if !is_built(&parsed.workload) {
         panic!(rt; "not built: {text}");
     }
-    if !pages_are_whole(&parsed.workload, settings.layout.page_size()) {
-        panic!(rt; "no whole pages: {text}");
+    let maps = parsed.workload.maps.as_slice();
+    let lines = parsed.map_lines.as_slice();
+    if maps.len() > 64 || lines.len() != maps.len() {
+        panic!(rt; "{} regions", maps.len());
     }
-    if !pages_are_few(&parsed.workload, settings.layout.page_size()) {
-        panic!(rt; "too many pages: {text}");
+    let Ok(table) = table_of_maps(rt.alloc(), layout.page_size(), maps, lines) else {
+        panic!(rt; "no table: {text}");
+    };
+    Accepted {
+        workload: parsed.workload,
+        table,
     }
-    let Ok(lanes) = memory_lanes(rt.alloc(), settings, &parsed.workload) else {
+}
+
+/// A journal a stripe, none of which keeps anything.
+fn no_journals(rt: &(impl Abort + AllocGlobal), layout: &Layout) -> List<NoJournal>
+    ensures { length result.items ≡ layout.now.stripes }
+{
+    match vec![in rt.alloc(); NoJournal; layout.stripes() as usize] {
+        Ok(journals) => List::from_vec(journals),
+        Err(_) => panic!(rt; "no memory"),
+    }
+}
+
+/// Runs a text that is accepted.
+fn answer_in(rt: &(impl Abort + AllocGlobal), settings: &Settings, text: &str) -> SerialEnd<MemLane>
+    requires { AreInRange settings.now }
+{
+    let Accepted { workload, table } = accept(rt, &settings.layout, text);
+    let Ok(lanes) = memory_lanes(rt.alloc(), settings, &workload) else {
         panic!(rt; "no memory");
     };
-    match serial(rt.alloc(), settings, &parsed.workload, lanes) {
+    let mut journals = no_journals(rt, &settings.layout);
+    match serial(rt.alloc(), settings, &workload, table, lanes, &mut journals) {
         Ok(end) => end,
         Err(_) => panic!(rt; "no memory"),
     }
@@ -95,27 +136,32 @@ fn answer_failing(
     reads: &[u64],
     writes: &[u64],
 ) -> SerialEnd<FailLane<MemLane>> {
+    let mut journals = no_journals(rt, &layout);
+    failing_run(rt, layout, text, reads, writes, &mut journals)
+}
+
+/// The same, with these journals.
+fn failing_run<J: Journal>(
+    rt: &(impl Abort + AllocGlobal),
+    layout: Layout,
+    text: &str,
+    reads: &[u64],
+    writes: &[u64],
+    journals: &mut List<J>,
+) -> SerialEnd<FailLane<MemLane>>
+    requires journals { length journals.old.items ≡ layout.stripes }
+    requires empty { (s : ℕ) (journal : J) → slice_get journals.old.items s ≡ Some journal → J.has_noted journal [] }
+{
     let settings = Settings {
         layout,
         ..Settings::defaults()
     };
-    let Ok(parsed) = parse(rt.alloc(), text.as_bytes()) else {
-        panic!(rt; "refused: {text}");
-    };
-    if !is_built(&parsed.workload) {
-        panic!(rt; "not built: {text}");
-    }
-    if !pages_are_whole(&parsed.workload, layout.page_size()) {
-        panic!(rt; "no whole pages: {text}");
-    }
-    if !pages_are_few(&parsed.workload, layout.page_size()) {
-        panic!(rt; "too many pages: {text}");
-    }
-    let Ok(lanes) = memory_lanes(rt.alloc(), &settings, &parsed.workload) else {
+    let Accepted { workload, table } = accept(rt, &layout, text);
+    let Ok(lanes) = memory_lanes(rt.alloc(), &settings, &workload) else {
         panic!(rt; "no memory");
     };
     let lanes = failing(rt, lanes, reads, writes);
-    match serial(rt.alloc(), &settings, &parsed.workload, lanes) {
+    match serial(rt.alloc(), &settings, &workload, table, lanes, journals) {
         Ok(end) => end,
         Err(_) => panic!(rt; "no memory"),
     }
@@ -295,5 +341,150 @@ fn the_text_is_the_same_under_all_settings(rt: HostRuntime) {
             wanted.as_slice(),
             "{page_size}, {stripes}, {frames}, {high}, {low}, {faults}"
         );
+    }
+}
+
+/// A journal that keeps of each entry what it is and of which page, for the stripe of the first owner alone.
+#[derive(Drop)]
+struct Told {
+    entries: Vec<(&'static str, u32)>,
+}
+
+impl Journal for Told {
+    type Made = ();
+
+    // it is read by hand, so it may stand for any history
+    ghost has_noted = { λ j h. Unit {0} };
+
+    ghost made_with = { λ j. record {} };
+
+    fn note(&mut self, owner: u32, note: &Note<'_>) {
+        let page = match note.key() {
+            Some(key) if owner == 0 => key.page,
+            _ => u32::MAX,
+        };
+        let _ = self.entries.push((word(note), page));
+    }
+}
+
+fn word(note: &Note<'_>) -> &'static str {
+    match note {
+        Note::Load { .. } => "load",
+        Note::Save { .. } => "save",
+        Note::Raised { .. } => "raised",
+        Note::StartRead { .. } => "start read",
+        Note::Filled { .. } => "filled",
+        Note::Opened { .. } => "opened",
+        Note::Dropped { .. } => "dropped",
+        Note::ReadFailed { .. } => "read failed",
+        Note::WriteFailed { .. } => "write failed",
+        Note::StartWrite { .. } => "start write",
+        Note::Evicted { .. } => "evicted",
+        Note::Written { .. } => "written",
+        Note::Hint { .. } => "hint",
+        Note::Closing { .. } => "closing",
+        Note::Unmapped { .. } => "unmapped",
+    }
+}
+
+/// What a stripe makes of a text, over one frame and a lane of which reads and writes of these numbers fail.
+fn entries_of(
+    rt: &(impl Abort + AllocGlobal),
+    text: &str,
+    reads: &[u64],
+    writes: &[u64],
+) -> Vec<(&'static str, u32)> {
+    let Ok(layout) = Layout::new(64, 1, 1) else {
+        panic!(rt; "the layout is refused");
+    };
+    let empty = Told {
+        entries: Vec::new(rt.alloc()),
+    };
+    let mut journals = Vec::new(rt.alloc());
+    if journals.push(empty).is_err() {
+        panic!(rt; "no memory");
+    }
+    let mut journals = List::from_vec(journals);
+    let _ = failing_run(rt, layout, text, reads, writes, &mut journals);
+    match journals.into_vec().pop() {
+        Some(journal) => journal.entries,
+        None => panic!(rt; "no journal"),
+    }
+}
+
+#[test]
+fn a_journal_tells_how_two_pages_take_turns_in_one_frame(rt: HostRuntime) {
+    let text = "map A memory 128 rw\nscript s\nstore A 0 aa\nload A 64 1\nload A 0 1\n";
+    let wanted = [
+        ("raised", 0),
+        ("start read", 0),
+        ("filled", 0),
+        ("save", 0),
+        ("raised", 1),
+        ("start write", 0),
+        ("written", 0),
+        ("evicted", 0),
+        ("start read", 1),
+        ("filled", 1),
+        ("load", 1),
+        ("raised", 0),
+        ("evicted", 1),
+        ("start read", 0),
+        ("filled", 0),
+        ("load", 0),
+    ];
+    assert_eq!(rt;
+        entries_of(&rt, text, &[], &[]).as_slice(),
+        wanted.as_slice()
+    );
+}
+
+#[test]
+fn a_journal_tells_the_failures_of_fault_lines_and_of_the_last_writes(rt: HostRuntime) {
+    let text = "map A memory 128 rw\nscript s\nload A 0 1\nstore A 0 aa\nload A 62 4\nload A 0 1\n";
+    let wanted = [
+        ("raised", 0),
+        ("start read", 0),
+        ("read failed", 0),
+        ("raised", 0),
+        ("start read", 0),
+        ("filled", 0),
+        ("save", 0),
+        // the line loads of page 0, and ends where page 1 wants room
+        ("load", 0),
+        ("raised", 1),
+        ("start write", 0),
+        ("write failed", 0),
+        ("load", 0),
+        ("start write", 0),
+        ("write failed", 0),
+    ];
+    assert_eq!(rt;
+        entries_of(&rt, text, &[1], &[1, 2]).as_slice(),
+        wanted.as_slice()
+    );
+}
+
+#[test]
+fn the_first_region_that_breaks_a_rule_is_named_by_its_line(rt: HostRuntime) {
+    let text = "map A memory 64 rw\n# B\nmap B memory 96 rw\nmap A memory 64 rw\n";
+    let Ok(parsed) = parse(rt.alloc(), text.as_bytes()) else {
+        panic!(rt; "refused: {text}");
+    };
+    let maps = parsed.workload.maps.as_slice();
+    let lines = parsed.map_lines.as_slice();
+    if maps.len() > 64 || lines.len() != maps.len() {
+        panic!(rt; "{} regions", maps.len());
+    }
+    let Ok(layout) = Layout::new(64, 1, 1) else {
+        panic!(rt; "the layout is refused");
+    };
+    match table_of_maps(rt.alloc(), layout.page_size(), maps, lines) {
+        Err(TableFault::Refused(refusal)) => {
+            let line = 3;
+            let kind = RegionKind::BadLength;
+            assert_eq!(rt; refusal, RegionRefusal { line, kind });
+        }
+        _ => panic!(rt; "a table with a region of a page and a half"),
     }
 }

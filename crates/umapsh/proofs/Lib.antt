@@ -1,4 +1,3 @@
 pub mod Inputs
-pub mod RegionRules
 pub mod Refused
 pub mod Outcomes

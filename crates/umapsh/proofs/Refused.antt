@@ -16,14 +16,14 @@ use Rattle.workload_text.proofs.Complete.{text_complete, one_reading}
 use Rattle.workload_text.proofs.Refused.{refused_at}
 use Rattle.region_table.specs.Regions.{RegionSeen}
 use Rattle.script_run.specs.Tables.{regions_seen}
-use Rattle.umapsh.specs.Regions.{region_seen, region_refusal, IfRegionRefused}
+use Rattle.script_run.specs.RegionRules.{region_seen, region_refusal, IfRegionRefused}
 use Rattle.umapsh.specs.Inputs.{refusal_of, refused_behind, refused_text}
 use Rattle.umapsh.specs.Top.{RunStop, text_status, region_status}
-use Rattle.umapsh.specs.declared.refusal.RegionRefusal.{RegionRefusal}
-use Rattle.umapsh.specs.declared.refusal.TableFault.{TableFault}
-use Rattle.umapsh.specs.declared.refusal.TableFault.TheVariants as table
+use Rattle.script_run.specs.declared.regions.RegionRefusal.{RegionRefusal}
+use Rattle.script_run.specs.declared.regions.TableFault.{TableFault}
+use Rattle.script_run.specs.declared.regions.TableFault.TheVariants as table
 use Rattle.umapsh.specs.declared.refusal.Refusal.TheVariants as why
-use Rattle.umapsh.proofs.RegionRules.{seen_are, same_count}
+use Rattle.script_run.proofs.RegionRules.{seen_are, same_count}
 
 -- ---- the text is refused
 

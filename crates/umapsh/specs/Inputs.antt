@@ -7,8 +7,8 @@ use Rattle.workload_text.specs.Refusals.{RefusedAt, read_text}
 use Rattle.workload_text.specs.Answers.{map_numbers}
 use Rattle.workload_text.specs.Built.{is_built}
 use Rattle.script_run.specs.Tables.{regions_seen}
-use Rattle.umapsh.specs.Regions.{region_refusal}
-use Rattle.umapsh.specs.declared.refusal.RegionRefusal.{RegionRefusal}
+use Rattle.script_run.specs.RegionRules.{region_refusal}
+use Rattle.script_run.specs.declared.regions.RegionRefusal.{RegionRefusal}
 use Rattle.umapsh.specs.declared.refusal.Refusal.{Refusal}
 use Rattle.umapsh.specs.declared.refusal.Refusal.TheVariants as why
 

@@ -3,8 +3,8 @@ use Rattle.std.specs.Prelude.{ℕ, List, [], ◌++◌, codes, Option, Some, None
 use Rattle.std.specs.Fmt.{decimal}
 use Rattle.workload_text.specs.declared.refusal.TextKind.{TextKind}
 use Rattle.workload_text.specs.declared.refusal.TextKind.TheVariants as kind
-use Rattle.umapsh.specs.declared.refusal.RegionKind.{RegionKind}
-use Rattle.umapsh.specs.declared.refusal.RegionKind.TheVariants as rule
+use Rattle.script_run.specs.declared.regions.RegionKind.{RegionKind}
+use Rattle.script_run.specs.declared.regions.RegionKind.TheVariants as rule
 use Rattle.umapsh.specs.declared.refusal.Refusal.{Refusal}
 use Rattle.umapsh.specs.declared.refusal.Refusal.TheVariants as why
 use Rattle.umapsh.specs.declared.words.WordsFault.{WordsFault}

@@ -9,8 +9,8 @@ use Rattle.script_run.specs.Streams.{AppendsFront}
 use Rattle.umapsh.specs.Inputs.{refusal_of}
 use Rattle.workload_text.specs.declared.refusal.TextFault.{TextFault}
 use Rattle.workload_text.specs.declared.refusal.TextFault.TheVariants as text
-use Rattle.umapsh.specs.declared.refusal.TableFault.{TableFault}
-use Rattle.umapsh.specs.declared.refusal.TableFault.TheVariants as table
+use Rattle.script_run.specs.declared.regions.TableFault.{TableFault}
+use Rattle.script_run.specs.declared.regions.TableFault.TheVariants as table
 use Rattle.umapsh.specs.declared.refusal.Refusal.TheVariants as why
 use Rattle.umapsh.specs.declared.status.Status.{Status}
 use Rattle.umapsh.specs.declared.status.Status.TheVariants.{Done, Refused, Words, Memory, SinkFault, SourceFault}

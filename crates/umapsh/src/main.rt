@@ -5,7 +5,6 @@
 #![tactic(auto)]
 
 mod refusal;
-mod regions;
 mod status;
 #[cfg(test)]
 mod tests;

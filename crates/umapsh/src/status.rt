@@ -2,8 +2,9 @@
 ghost use Rattle.std.specs.Prelude.{◌≡◌, ◌+◌, ◌≤◌, ◌++◌, length, take};
 ghost use Rattle.umapsh.specs.Status.{status_code, status_text, kind_text, rule_text, refusal_text};
 
-use crate::refusal::{Refusal, RegionKind};
+use crate::refusal::Refusal;
 use crate::words::WordsFault;
+use script_run::RegionKind;
 use workload_text::TextKind;
 
 #[derive(Clone, Copy, Debug, PartialEq, Eq)]

@@ -1,10 +1,10 @@
 //! The command on streams in memory: each status once, and what was written.
-use crate::refusal::{Refusal, RegionKind};
+use crate::refusal::Refusal;
 use crate::status::Status;
 use crate::top::top_serial;
 use crate::words::{Call, WordsFault};
 use page_base::{Bytes, List, Texts};
-use script_run::{FailingWrite, MemSink, MemSource};
+use script_run::{FailingWrite, MemSink, MemSource, RegionKind};
 use std::test::Fail;
 use workload_text::TextKind;
 

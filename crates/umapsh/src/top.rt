@@ -1,8 +1,7 @@
 //! The top call: from input and words to output and status.
 //!
 //! What comes first decides: the words, then the source, then the text, then memory, then the sink.
-ghost use Rattle.std.specs.Prelude.{◌≡◌, ◌<◌, true, List, length, vec_len, IfOk, IfErr};
-ghost use Rattle.workload_text.specs.Line.{Line};
+ghost use Rattle.std.specs.Prelude.{◌≡◌, ◌<◌, true, length, vec_len, IfOk, IfErr};
 ghost use Rattle.workload_text.specs.View.{lines_of};
 ghost use Rattle.workload_text.specs.Accepted.{IsRunnable, regions_of};
 ghost use Rattle.workload_text.specs.Built.{is_built};
@@ -12,13 +11,13 @@ ghost use Rattle.umapsh.specs.Status.{refused_words};
 ghost use Rattle.umapsh.specs.Words.{words_fault};
 ghost use Rattle.umapsh.specs.Top.{Accepts, answer_of, text_status, region_status, Says, Causes, ReadAll, ReadsFew, ReadStop, RunStop};
 
-use crate::refusal::{Refusal, TableFault};
-use crate::regions::table_of_maps;
+use crate::refusal::Refusal;
 use crate::status::Status;
 use crate::words::{self, Call};
-use page_base::{Bytes, Layout};
+use page_base::{Bytes, Layout, List};
+use page_model::NoJournal;
 use region_table::RegionTable;
-use script_run::{Settings, Sink, Source, memory_lanes, serial};
+use script_run::{Settings, Sink, Source, TableFault, memory_lanes, serial, table_of_maps};
 use std::alloc::{AllocError, Global};
 use workload_text::{TextFault, Workload, is_built, parse};
 
@@ -139,7 +138,7 @@ fn accept(alloc: Global, layout: Layout, bytes: &[u8]) -> Result<Accepted, Statu
 
 /// The replies to a text. The settings are the defaults.
 fn run(alloc: Global, bytes: &[u8]) -> Result<Bytes, Status>
-    ensures ok { IfOk result (λ text. (lines : List Line) × Accepts bytes.now lines × (text.items ≡ answer_of lines)) }
+    ensures ok { IfOk result (λ text. (lines : _) × Accepts bytes.now lines × (text.items ≡ answer_of lines)) }
     ensures stop { IfErr result (λ e. RunStop e bytes.now) }
 {
     let settings = Settings::defaults();
@@ -150,7 +149,12 @@ fn run(alloc: Global, bytes: &[u8]) -> Result<Bytes, Status>
     let Ok(lanes) = memory_lanes(alloc, &settings, &accepted.workload) else {
         return Err(Status::Memory);
     };
-    match serial(alloc, &settings, &accepted.workload, lanes) {
+    let Ok(journals) = vec![in alloc; NoJournal; settings.layout.stripes() as usize] else {
+        return Err(Status::Memory);
+    };
+    let mut journals = List::from_vec(journals);
+    let Accepted { workload, table } = accepted;
+    match serial(alloc, &settings, &workload, table, lanes, &mut journals) {
         Ok(end) => Ok(end.text),
         Err(_) => Err(Status::Memory),
     }

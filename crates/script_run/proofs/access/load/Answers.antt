@@ -1,131 +1,186 @@
-use Rattle.std.proofs.Common.{◌≡◌, ◌⊎◌, inl, inr, ◌+◌, ◌*◌, ◌-◌, ◌/◌, ◌%◌, ◌<◌, ◌≤◌, min, Some, length, take, drop, refl, sym, ap, subst, ◌∙◌, arith, length-take, length-drop}
-use Rattle.std.proofs.lemmas.Nat.{div-add-mod'}
-use Rattle.serial_pager.specs.Pagers.{IsPiece, held}
-use Rattle.store_trait.specs.Memory.{page_of}
+use Rattle.std.proofs.Common.{◌≡◌, inl, ◌+◌, ◌*◌, ◌-◌, ◌≤◌, Some, [], ◌∷◌, ◌++◌, length, take, drop, refl, sym, ap, subst, ◌∙◌, arith, length-take, length-drop, append_assoc, append-nil}
 use Rattle.std.proofs.lemmas.List.{take_all}
+use Rattle.std.proofs.lemmas.List.Sums.{sum_by-append, sum_by-cons}
+use Rattle.std.proofs.lemmas.Slice.{take-put_mid}
 use borrow.Rule.Slice.PartMut.{put_mid}
-use Rattle.script_run.specs.Ranges.{pages_at, key_of}
+use Rattle.page_model.specs.declared.entry.Entry.TheVariants.{Load}
+use Rattle.region_table.specs.Cuts.{rest_of}
+use Rattle.region_table.specs.Pieces.{pieces_of}
+use Rattle.region_table.specs.declared.pieces.Piece.{Piece}
+use Rattle.store_trait.specs.Memory.{page_of}
+use Rattle.serial_pager.specs.Accesses.{is_read}
+use Rattle.serial_pager.specs.Holdings as one
+use Rattle.serial_pager.specs.Pagers.{IsPiece, held}
+use Rattle.script_run.specs.FitsSerial.{piece_key}
+use Rattle.script_run.specs.LineEntries.{loads}
+use Rattle.script_run.specs.Ranges.{key_of, GoesBy}
 use Rattle.script_run.proofs.Pieces.{length-put_mid}
 use Rattle.script_run.proofs.Accesses.{loaded_more}
-use Rattle.script_run.proofs.Ranged.{goes_none, goes_more, goes_within, one_piece, held_more, piece_some, piece_short, piece_within, next_border, has_piece, page_below, is_piece, faults_at, piece_is}
-use Rattle.script_run.proofs.Standing.{goes_stand, fails_stand}
+use Rattle.script_run.proofs.Makings.{by_none, by_access, by_failure, FailsBy, loads_more}
+use Rattle.script_run.proofs.Ranged.{IsNext, next_piece, all_done, goes_none, goes_more, goes_within, one_piece, held_more, key_is, page_is, page_below, has_piece, is_piece, faults_at, piece_is}
 use Rattle.script_run.proofs.access.load.Goals as goal
 
-pub loop-done-init : goal.loop-done-init
-loop-done-init g c = record {
+pub loop-piece-init : goal.loop-piece-init
+loop-piece-init g c = record {
   goes = goes_none c.args.pager.now;
   within = omega arith;
-  border = inl refl;
+  pieces = ap (λ z. pieces_of z c.args.region c.args.off (length c.args.buf.now)) (sym c.requires.listed.page_size) ∙ sym c.pieces-piece-items.ensures ∙ ap rest_of (sym c.into_iter-piece-iterator.ensures.into_iter_gives);
+  bytes = refl;
   held = λ k page. refl;
   owes = λ k e. e;
   front = λ bytes h. refl;
+  made = by_none g.J.Journal.has_noted c.args.pager.now;
+  journals = refl;
 }
+
+pub slice_bounds-load-end : goal.slice_bounds-load-end
+slice_bounds-load-end g c =
+    let p = c.args.pager.now in
+    let z = p.page_size in
+    let off = c.args.off in
+    let len = length c.args.buf.now in
+    let done = c.loop-piece.done in
+    let i = c.loop-piece.invariant in
+    let front = c.loop-piece.yielded in
+    let piece : Piece = c.in-Some.piece in
+    let rest = rest_of c.next.new.self in
+    let whole : pieces_of z c.args.region off len ≡ front ++ piece ∷ rest = i.pieces ∙ ap (λ ps. front ++ ps) c.in-Some.ensures.steps in
+    let next : IsNext z c.args.region off len done piece = next_piece z c.args.region off len done front piece rest (c.pieces_cover.ensures z c.args.region off len c.requires.listed.some) whole i.bytes in
+    omega (arith, next.short, c.loop-piece.auto.buf)
 
 pub load-requires-clause-piece : goal.load-requires-clause-piece
 load-requires-clause-piece g c =
     let p = c.args.pager.now in
-    let size = c.from-size.result in
-    let sized : p.page_size ≡ size = sym (c.from-size.ensures ∙ c.page_size.ensures.value) in
-    let some : 0 < size = omega (arith, c.page_size.ensures.some, c.from-size.ensures) in
-    let done = c.loop-done.done in
+    let z = p.page_size in
     let off = c.args.off in
     let len = length c.args.buf.now in
-    let i = c.loop-done.invariant in
-    let n = c.min-count.result in
-    let short : done < len = omega (arith, c.loop-done.auto.buf) in
-    let is : n ≡ min (size - (off + done) % size) (len - done) = c.min-count.ensures ∙ ap (λ m. min (size - (off + done) % size) (m - done)) c.loop-done.auto.buf in
-    let buf = c.loop-done.buf in
-    let part : length (take (done + n - done) (drop done buf)) ≡ n = omega (arith, length-take (done + n - done) (drop done buf), length-drop done buf, piece_short size off len done n some short is, c.loop-done.auto.buf) in
-    subst (λ m. IsPiece c.loop-done.pager (key_of c.args.region ((off + done) / size)) ((off + done) % size) m) (sym part) (is_piece size off len done n some short is p c.loop-done.pager c.args.region c.requires i.goes.same sized)
+    let done = c.loop-piece.done in
+    let i = c.loop-piece.invariant in
+    let front = c.loop-piece.yielded in
+    let piece : Piece = c.in-Some.piece in
+    let rest = rest_of c.next.new.self in
+    let whole : pieces_of z c.args.region off len ≡ front ++ piece ∷ rest = i.pieces ∙ ap (λ ps. front ++ ps) c.in-Some.ensures.steps in
+    let next : IsNext z c.args.region off len done piece = next_piece z c.args.region off len done front piece rest (c.pieces_cover.ensures z c.args.region off len c.requires.listed.some) whole i.bytes in
+    let buf = c.loop-piece.buf in
+    let fits : done + piece.len ≤ length buf = omega (arith, next.short, c.loop-piece.auto.buf) in
+    let part : length (take (done + piece.len - done) (drop done buf)) ≡ piece.len = omega (arith, length-take (done + piece.len - done) (drop done buf), length-drop done buf, fits) in
+    subst (λ n. IsPiece c.loop-piece.pager piece.key piece.place n) (sym part) (is_piece z c.args.region off len done piece next p c.loop-piece.pager c.requires.range i.goes.same refl)
 
-pub load-requires-clause-few : goal.load-requires-clause-few
-load-requires-clause-few g c = omega (arith, c.requires.few, c.loop-done.invariant.goes.spent, c.loop-done.auto.buf)
-
-pub loop-done-preserved : goal.loop-done-preserved
-loop-done-preserved g c =
+pub loop-piece-preserved : goal.loop-piece-preserved
+loop-piece-preserved g c =
     let p = c.args.pager.now in
-    let size = c.from-size.result in
-    let sized : p.page_size ≡ size = sym (c.from-size.ensures ∙ c.page_size.ensures.value) in
-    let some : 0 < size = omega (arith, c.page_size.ensures.some, c.from-size.ensures) in
-    let done = c.loop-done.done in
+    let z = p.page_size in
     let off = c.args.off in
     let len = length c.args.buf.now in
-    let i = c.loop-done.invariant in
-    let n = c.min-count.result in
-    let short : done < len = omega (arith, c.loop-done.auto.buf) in
-    let is : n ≡ min (size - (off + done) % size) (len - done) = c.min-count.ensures ∙ ap (λ m. min (size - (off + done) % size) (m - done)) c.loop-done.auto.buf in
-    let buf = c.loop-done.buf in
-    let now = c.loop-done.pager in
+    let done = c.loop-piece.done in
+    let i = c.loop-piece.invariant in
+    let front = c.loop-piece.yielded in
+    let piece : Piece = c.in-Some.piece in
+    let rest = rest_of c.next.new.self in
+    let whole : pieces_of z c.args.region off len ≡ front ++ piece ∷ rest = i.pieces ∙ ap (λ ps. front ++ ps) c.in-Some.ensures.steps in
+    let next : IsNext z c.args.region off len done piece = next_piece z c.args.region off len done front piece rest (c.pieces_cover.ensures z c.args.region off len c.requires.listed.some) whole i.bytes in
+    let buf = c.loop-piece.buf in
+    let fits : done + piece.len ≤ length buf = omega (arith, next.short, c.loop-piece.auto.buf) in
+    let part : length (take (done + piece.len - done) (drop done buf)) ≡ piece.len = omega (arith, length-take (done + piece.len - done) (drop done buf), length-drop done buf, fits) in
+    let now = c.loop-piece.pager in
     let new = c.load.new.self in
-    let piece = c.load.new.buf in
+    let bytes_read = c.load.new.buf in
     let e = c.in-Ok.ensures in
-    let more = piece_short size off len done n some short is in
-    let fits : done + n ≤ length buf = omega (arith, more, c.loop-done.auto.buf) in
-    let part : length (take (done + n - done) (drop done buf)) ≡ n = omega (arith, length-take (done + n - done) (drop done buf), length-drop done buf, fits) in
-    let long : length piece ≡ n = c.load.auto.buf ∙ part in
-    let key = key_of c.args.region ((off + done) / size) in
-    let whole : length (put_mid done (done + n - done) buf piece) ≡ length buf = length-put_mid buf piece done (done + n - done) (omega (arith, long)) (omega (arith, fits)) in
+    let long : length bytes_read ≡ piece.len = c.load.auto.buf ∙ part in
+    let whole_buf : length (put_mid done (done + piece.len - done) buf bytes_read) ≡ length buf = length-put_mid buf bytes_read done (done + piece.len - done) (omega (arith, long)) (omega (arith, fits)) in
+    let taken : take (done + piece.len) (put_mid done (done + piece.len - done) buf bytes_read) ≡ take done buf ++ bytes_read = take-put_mid done (done + piece.len - done) buf bytes_read (done + piece.len) (omega (arith, fits)) (omega (arith, long, fits)) in
     record {
-      goes = goes_more done n p now new i.goes (one_piece n now new e.same e.spent e.counts (goes_stand _ now new e.ok) (piece_some size off len done n some short is));
-      within = omega (arith, whole, fits);
-      border = elim (next_border size off len done n some short is) [
-        | inl h ↦ inl h
-        | inr h ↦ elim h [ inl k ↦ inr (inl (ap (λ z. (off + (done + n)) % z) sized ∙ k)) | inr k ↦ inr (inr (omega (arith, k, whole, c.loop-done.auto.buf))) ]
-      ];
+      goes = goes_more done piece.len p now new i.goes (one_piece piece.len now new e.same e.spent e.counts next.some);
+      within = omega (arith, whole_buf, fits);
+      pieces = whole ∙ sym (append_assoc front (piece ∷ []) rest);
+      bytes = sum_by-append (λ (q : Piece). q.len) front (piece ∷ []) ∙ omega (arith, i.bytes, sum_by-cons (λ (q : Piece). q.len) piece []);
       held = held_more p now new i.goes.same i.held e.held;
       owes = λ k owed. i.owes k (e.owes k owed);
       front = λ bytes h.
-          let total : length bytes ≡ pages_at p c.args.region * size = h.whole ∙ ap (λ z. pages_at p c.args.region * z) sized in
-          let at = div-add-mod' (off + done) size in
-          let there : held now key ≡ Some (page_of size bytes ((off + done) / size)) = i.held key (has_piece size off len done n some short is p now c.args.region c.requires i.goes.same sized) ∙ h.each ((off + done) / size) (page_below size off len done n some short is p now c.args.region c.requires i.goes.same sized) ∙ ap (λ z. Some (page_of z bytes ((off + done) / size))) sized in
-          let inside : off + length buf ≤ length bytes = omega (arith, c.requires.inside, total, ap (λ z. pages_at p c.args.region * z) sized, c.loop-done.auto.buf) in
-          let same : piece ≡ take n (drop ((off + done) / size * size + (off + done) % size) bytes) = piece_is size ((off + done) / size) ((off + done) % size) n bytes piece (held now key) there e.bytes long (piece_within size off len done n some short is) (omega (arith, at, fits, inside)) in
-          loaded_more buf piece bytes off done n ((off + done) / size * size + (off + done) % size) fits inside long same at (i.front bytes h) (done + n - done) (done + n) (omega arith) refl;
+          let there : held now piece.key ≡ Some (page_of z bytes piece.key.page) = i.held piece.key (has_piece z c.args.region off len done piece next p now c.requires.range i.goes.same refl) ∙ ap (held p) (key_is z c.args.region off len done piece next) ∙ h.each piece.key.page (page_below z c.args.region off len done piece next p now c.requires.range i.goes.same refl) in
+          let inside : off + length buf ≤ length bytes = omega (arith, c.requires.range.inside, h.whole, c.loop-piece.auto.buf) in
+          let same : bytes_read ≡ take piece.len (drop (piece.key.page * z + piece.place) bytes) = piece_is z piece.key.page piece.place piece.len bytes bytes_read (held now piece.key) there e.bytes long next.within (omega (arith, next.begins, fits, inside)) in
+          loaded_more buf bytes_read bytes off done piece.len (piece.key.page * z + piece.place) fits inside long same next.begins (i.front bytes h) (done + piece.len - done) (done + piece.len) (omega arith) refl;
+      made =
+          subst (λ es. GoesBy g.J.Journal.has_noted es [] p new) (sym (ap (loads (front ++ piece ∷ [])) taken ∙ loads_more front piece (take done buf) bytes_read (omega (arith, i.bytes, length-take done buf, fits)) long))
+          (by_access g.J.Journal.has_noted (loads front (take done buf)) p now new piece.key is_read (Load piece.key piece.place bytes_read) i.goes.same i.made e.ok refl refl refl);
+      journals = e.made ∙ i.journals;
     }
 
 pub returns-in-Err-clause-goes : goal.returns-in-Err-clause-goes
 returns-in-Err-clause-goes g c =
     let p = c.args.pager.now in
-    let size = c.from-size.result in
-    let sized : p.page_size ≡ size = sym (c.from-size.ensures ∙ c.page_size.ensures.value) in
-    let some : 0 < size = omega (arith, c.page_size.ensures.some, c.from-size.ensures) in
-    let done = c.loop-done.done in
+    let z = p.page_size in
     let off = c.args.off in
     let len = length c.args.buf.now in
-    let i = c.loop-done.invariant in
-    let n = c.min-count.result in
-    let short : done < len = omega (arith, c.loop-done.auto.buf) in
-    let is : n ≡ min (size - (off + done) % size) (len - done) = c.min-count.ensures ∙ ap (λ m. min (size - (off + done) % size) (m - done)) c.loop-done.auto.buf in
+    let done = c.loop-piece.done in
+    let i = c.loop-piece.invariant in
+    let front = c.loop-piece.yielded in
+    let piece : Piece = c.in-Some.piece in
+    let rest = rest_of c.next.new.self in
+    let whole : pieces_of z c.args.region off len ≡ front ++ piece ∷ rest = i.pieces ∙ ap (λ ps. front ++ ps) c.in-Some.ensures.steps in
+    let next : IsNext z c.args.region off len done piece = next_piece z c.args.region off len done front piece rest (c.pieces_cover.ensures z c.args.region off len c.requires.listed.some) whole i.bytes in
     let e = c.in-Err.ensures in
-    goes_within (done + 1) len p c.load.new.self (goes_more done 1 p c.loop-done.pager c.load.new.self i.goes (one_piece 1 c.loop-done.pager c.load.new.self e.same e.spent e.counts (fails_stand _ c.loop-done.pager c.load.new.self c.in-Err.fault e.err) (omega arith))) (omega (arith, short))
+    goes_within (done + 1) len p c.load.new.self (goes_more done 1 p c.loop-piece.pager c.load.new.self i.goes (one_piece 1 c.loop-piece.pager c.load.new.self e.same e.spent e.counts (omega arith))) (omega (arith, next.some, next.short))
+
+pub returns-in-Err-clause-journals : goal.returns-in-Err-clause-journals
+returns-in-Err-clause-journals g c = c.in-Err.ensures.made ∙ c.loop-piece.invariant.journals
 
 pub returns-in-Err-clause-held : goal.returns-in-Err-clause-held
-returns-in-Err-clause-held g c = held_more c.args.pager.now c.loop-done.pager c.load.new.self c.loop-done.invariant.goes.same c.loop-done.invariant.held c.in-Err.ensures.held
+returns-in-Err-clause-held g c = held_more c.args.pager.now c.loop-piece.pager c.load.new.self c.loop-piece.invariant.goes.same c.loop-piece.invariant.held c.in-Err.ensures.held
 
 pub returns-in-Err-clause-owes : goal.returns-in-Err-clause-owes
-returns-in-Err-clause-owes g c = λ k e. c.loop-done.invariant.owes k (c.in-Err.ensures.owes k e)
+returns-in-Err-clause-owes g c = λ k e. c.loop-piece.invariant.owes k (c.in-Err.ensures.owes k e)
 
 pub returns-in-Err-clause-fault : goal.returns-in-Err-clause-fault
 returns-in-Err-clause-fault g c =
     let p = c.args.pager.now in
-    let size = c.from-size.result in
-    let sized : p.page_size ≡ size = sym (c.from-size.ensures ∙ c.page_size.ensures.value) in
-    let some : 0 < size = omega (arith, c.page_size.ensures.some, c.from-size.ensures) in
-    let done = c.loop-done.done in
+    let z = p.page_size in
     let off = c.args.off in
     let len = length c.args.buf.now in
-    let i = c.loop-done.invariant in
-    let n = c.min-count.result in
-    let short : done < len = omega (arith, c.loop-done.auto.buf) in
-    let is : n ≡ min (size - (off + done) % size) (len - done) = c.min-count.ensures ∙ ap (λ m. min (size - (off + done) % size) (m - done)) c.loop-done.auto.buf in
-    let border : (done ≡ 0) ⊎ (((off + done) % p.page_size ≡ 0) ⊎ (done ≡ len)) = elim i.border [ inl h ↦ inl h | inr h ↦ elim h [ inl k ↦ inr (inl k) | inr k ↦ inr (inr (k ∙ c.loop-done.auto.buf)) ] ] in
-    (done, faults_at p c.loop-done.pager c.load.new.self c.args.region off len done size (λ k. ⊥) c.in-Err.fault i.goes (λ k e. inl (i.owes k e)) sized short border c.in-Err.ensures.fault)
+    let done = c.loop-piece.done in
+    let i = c.loop-piece.invariant in
+    let front = c.loop-piece.yielded in
+    let piece : Piece = c.in-Some.piece in
+    let rest = rest_of c.next.new.self in
+    let whole : pieces_of z c.args.region off len ≡ front ++ piece ∷ rest = i.pieces ∙ ap (λ ps. front ++ ps) c.in-Some.ensures.steps in
+    let next : IsNext z c.args.region off len done piece = next_piece z c.args.region off len done front piece rest (c.pieces_cover.ensures z c.args.region off len c.requires.listed.some) whole i.bytes in
+    let e = c.in-Err.ensures in
+    let f = c.in-Err.fault in
+    let now = c.loop-piece.pager in
+    let new = c.load.new.self in
+    let ended : piece.key ≡ piece_key z c.args.region (off + done) = key_is z c.args.region off len done piece next ∙ ap (key_of c.args.region) (sym (page_is z c.args.region off len done piece next)) in
+    let fails : FailsBy g.J.Journal.has_noted (loads front (take done c.loop-piece.buf)) (piece_key z c.args.region (off + done)) f p new = by_failure g.J.Journal.has_noted (loads front (take done c.loop-piece.buf)) p now new piece.key (piece_key z c.args.region (off + done)) is_read (λ x. one.owes x.core) f i.goes.same ended i.made e.err e.fault.stripe in (
+      done,
+      faults_at p now new c.args.region off len done z piece (λ k. ⊥) f next i.goes (λ k h. inl (i.owes k h)) refl e.fault,
+      take done c.loop-piece.buf,
+      omega (arith, length-take done c.loop-piece.buf, i.within),
+      record {
+        pieces = front;
+        before = record { next = piece; rest = rest; all_are = whole; bytes = i.bytes };
+        failure = fails.failure;
+        fails = fails.fails;
+        goes = fails.goes;
+      },
+    )
 
 pub returns-clause-goes : goal.returns-clause-goes
-returns-clause-goes g c = goes_within c.loop-done.done (length c.args.buf.now) c.args.pager.now c.loop-done.pager c.loop-done.invariant.goes (omega (arith, c.loop-done.invariant.within, c.loop-done.auto.buf))
+returns-clause-goes g c = goes_within c.loop-piece.done (length c.args.buf.now) c.args.pager.now c.loop-piece.pager c.loop-piece.invariant.goes (omega (arith, c.loop-piece.invariant.within, c.loop-piece.auto.buf))
 
 pub returns-clause-bytes : goal.returns-clause-bytes
 returns-clause-bytes g c = λ bytes h.
-    let i = c.loop-done.invariant in
-    let all : c.loop-done.done ≡ length c.loop-done.buf = omega (arith, i.within, c.loop-done-test.false) in
-    sym (take_all c.loop-done.done c.loop-done.buf (omega (arith, all))) ∙ i.front bytes h ∙ ap (λ m. take m (drop c.args.off bytes)) (all ∙ c.loop-done.auto.buf)
+    let i = c.loop-piece.invariant in
+    let z = c.args.pager.now.page_size in
+    let all : c.loop-piece.done ≡ length c.args.buf.now = all_done z c.args.region c.args.off (length c.args.buf.now) c.loop-piece.done c.loop-piece.yielded (c.pieces_cover.ensures z c.args.region c.args.off (length c.args.buf.now) c.requires.listed.some) (i.pieces ∙ ap (λ ps. c.loop-piece.yielded ++ ps) c.in-None.ensures.steps.0) i.bytes in
+    sym (take_all c.loop-piece.done c.loop-piece.buf (omega (arith, all, c.loop-piece.auto.buf))) ∙ i.front bytes h ∙ ap (λ m. take m (drop c.args.off bytes)) all
+
+pub returns-clause-made : goal.returns-clause-made
+returns-clause-made g c =
+    let i = c.loop-piece.invariant in
+    let z = c.args.pager.now.page_size in
+    let len = length c.args.buf.now in
+    let front = c.loop-piece.yielded in
+    let pieces : pieces_of z c.args.region c.args.off len ≡ front ++ [] = i.pieces ∙ ap (λ ps. front ++ ps) c.in-None.ensures.steps.0 in
+    let all : c.loop-piece.done ≡ len = all_done z c.args.region c.args.off len c.loop-piece.done front (c.pieces_cover.ensures z c.args.region c.args.off len c.requires.listed.some) pieces i.bytes in
+    subst (λ ps. GoesBy g.J.Journal.has_noted (loads ps c.loop-piece.buf) [] c.args.pager.now c.loop-piece.pager) (sym (pieces ∙ append-nil front))
+    (subst (λ xs. GoesBy g.J.Journal.has_noted (loads front xs) [] c.args.pager.now c.loop-piece.pager) (take_all c.loop-piece.done c.loop-piece.buf (omega (arith, all, c.loop-piece.auto.buf))) i.made)

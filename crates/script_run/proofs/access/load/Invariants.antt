@@ -1,18 +1,22 @@
-use Rattle.std.proofs.Common.{◌≡◌, ◌⊎◌, ◌+◌, ◌-◌, ◌%◌, ◌≤◌, ℕ, List, true, length, take, drop}
+use Rattle.std.proofs.Common.{◌≡◌, ◌++◌, ◌≤◌, ℕ, List, [], true, length, take, drop}
 use Rattle.page_base.specs.declared.keys.Key.{Key}
-use Rattle.serial_pager.specs.Pagers.{owes, HoldsSame}
-use Rattle.script_run.specs.Ranges.{HoldsRegion, GoesOn}
+use Rattle.region_table.specs.Cuts.{rest_of}
+use Rattle.region_table.specs.Pieces.{pieces_of}
+use Rattle.serial_pager.specs.Pagers.{owes, HoldsSame, journals_made}
+use Rattle.script_run.specs.LineEntries.{loads}
+use Rattle.script_run.specs.Ranges.{HoldsRegion, GoesOn, GoesBy}
+use Rattle.script_run.proofs.Ranged.{lengths}
 use Rattle.script_run.proofs.access.load.Given as goal
 
-abbrev pub invariant-loop-done : goal.invariant-loop-done
-invariant-loop-done g l = record {
+abbrev pub invariant-loop-piece : goal.invariant-loop-piece
+invariant-loop-piece g l = record {
   goes : GoesOn l.done l.initial.pager l.pager;
   within : l.done ≤ length l.buf;
-  border : (l.done ≡ 0) ⊎ (((l.off + l.done) % l.initial.pager.page_size ≡ 0) ⊎ (l.done ≡ length l.buf));
+  pieces : pieces_of l.initial.pager.page_size l.region l.off (length l.initial.buf) ≡ l.yielded ++ rest_of l.piece-iterator;
+  bytes : lengths l.yielded ≡ l.done;
   held : HoldsSame l.initial.pager l.pager;
   owes : (k : Key) → owes l.pager k ≡ true → owes l.initial.pager k ≡ true;
   front : (bytes : List ℕ) → HoldsRegion l.initial.pager l.region bytes → take l.done l.buf ≡ take l.done (drop l.off bytes);
+  made : GoesBy g.J.Journal.has_noted (loads l.yielded (take l.done l.buf)) [] l.initial.pager l.pager;
+  journals : journals_made g.J.Journal.made_with l.pager ≡ journals_made g.J.Journal.made_with l.initial.pager;
 }
-
-abbrev pub decreases-loop-done : goal.decreases-loop-done
-decreases-loop-done g l = length l.buf - l.done

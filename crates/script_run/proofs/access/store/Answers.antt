@@ -1,159 +1,229 @@
-use Rattle.std.proofs.Common.{◌≡◌, inl, inr, ◌+◌, ◌*◌, ◌-◌, ◌/◌, ◌%◌, ◌<◌, ◌≤◌, min, length, slice_get, take, drop, refl, sym, ap, subst, ◌∙◌, arith, length-take, length-drop}
-use Rattle.std.proofs.lemmas.Nat.{div-add-mod'}
+use Rattle.std.proofs.Common.{◌≡◌, inl, inr, ◌+◌, ◌*◌, ◌-◌, ◌<◌, ◌≤◌, [], ◌∷◌, ◌++◌, length, slice_get, take, drop, refl, sym, ap, subst, ◌∙◌, arith, length-take, length-drop, append_assoc, append-nil}
+use Rattle.std.specs.Option.{option_map}
 use Rattle.std.proofs.lemmas.List.{take_all}
+use Rattle.std.proofs.lemmas.List.Sums.{sum_by-append, sum_by-cons}
 use Rattle.page_base.specs.ListSeen.{spliced}
 use Rattle.page_base.specs.declared.keys.Key.{Key}
+use Rattle.page_model.specs.declared.entry.Entry.TheVariants.{Save}
+use Rattle.region_table.specs.Cuts.{rest_of}
+use Rattle.region_table.specs.Pieces.{pieces_of}
+use Rattle.region_table.specs.declared.pieces.Piece.{Piece}
 use Rattle.workload_text.specs.Line.{store_line}
-use Rattle.serial_pager.specs.Pagers.{IsPiece, may_store}
-use Rattle.script_run.specs.FitsSerial.{StoresTo}
-use Rattle.script_run.specs.Ranges.{pages_at, key_of, HoldsRegion}
+use Rattle.serial_pager.specs.Holdings as one
+use Rattle.serial_pager.specs.Holdings.{is_for_store}
+use Rattle.serial_pager.specs.Pagers.{IsPiece, may_store, held}
+use Rattle.script_run.specs.FitsSerial.{StoresTo, piece_key}
+use Rattle.script_run.specs.LineEntries.{saves}
+use Rattle.script_run.specs.Ranges.{key_of, HoldsRegion, GoesBy}
 use Rattle.script_run.proofs.Accesses.{spliced-spliced}
-use Rattle.script_run.proofs.Ranged.{goes_none, goes_more, goes_within, one_piece, same_page, piece_some, piece_short, piece_within, next_border, page_below, is_piece, faults_at, region_stored, region_kept, spliced_none, stores_to, same_pages}
-use Rattle.script_run.proofs.Standing.{goes_stand, fails_stand}
+use Rattle.script_run.proofs.Makings.{by_none, by_access, by_failure, FailsBy, accesses_snoc}
+use Rattle.script_run.proofs.Ranged.{IsNext, next_piece, all_done, goes_none, goes_more, goes_within, one_piece, same_page, key_is, page_is, page_below, is_piece, faults_at, region_stored, region_kept, spliced_none, stores_to, same_pages}
 use Rattle.script_run.proofs.access.store.Goals as goal
 
-pub loop-done-init : goal.loop-done-init
-loop-done-init g c = record {
+pub loop-piece-init : goal.loop-piece-init
+loop-piece-init g c = record {
   goes = goes_none c.args.pager.now;
   within = omega arith;
-  border = inl refl;
+  pieces = ap (λ z. pieces_of z c.args.region c.args.off (length c.args.bytes.now)) (sym c.requires.listed.page_size) ∙ sym c.pieces-piece-items.ensures ∙ ap rest_of (sym c.into_iter-piece-iterator.ensures.into_iter_gives);
+  bytes = refl;
   others = λ k page other. refl;
   owes = λ k e. inl e;
   front = λ b h. subst (λ xs. HoldsRegion c.args.pager.now c.args.region xs) (sym (spliced_none b c.args.off)) h;
+  made = by_none g.J.Journal.has_noted c.args.pager.now;
+  journals = refl;
 }
+
+pub slice_bounds-store-end : goal.slice_bounds-store-end
+slice_bounds-store-end g c =
+    let p = c.args.pager.now in
+    let z = p.page_size in
+    let off = c.args.off in
+    let bytes = c.args.bytes.now in
+    let len = length bytes in
+    let done = c.loop-piece.done in
+    let i = c.loop-piece.invariant in
+    let front = c.loop-piece.yielded in
+    let piece : Piece = c.in-Some.piece in
+    let rest = rest_of c.next.new.self in
+    let whole : pieces_of z c.args.region off len ≡ front ++ piece ∷ rest = i.pieces ∙ ap (λ ps. front ++ ps) c.in-Some.ensures.steps in
+    let next : IsNext z c.args.region off len done piece = next_piece z c.args.region off len done front piece rest (c.pieces_cover.ensures z c.args.region off len c.requires.listed.some) whole i.bytes in
+    omega (arith, next.short)
 
 pub store-requires-clause-piece : goal.store-requires-clause-piece
 store-requires-clause-piece g c =
     let p = c.args.pager.now in
-    let size = c.from-size.result in
-    let sized : p.page_size ≡ size = sym (c.from-size.ensures ∙ c.page_size.ensures.value) in
-    let some : 0 < size = omega (arith, c.page_size.ensures.some, c.from-size.ensures) in
-    let done = c.loop-done.done in
+    let z = p.page_size in
     let off = c.args.off in
     let bytes = c.args.bytes.now in
     let len = length bytes in
-    let i = c.loop-done.invariant in
-    let n = c.min-count.result in
-    let short : done < len = omega arith in
-    let is : n ≡ min (size - (off + done) % size) (len - done) = c.min-count.ensures in
-    let part : length (take (done + n - done) (drop done bytes)) ≡ n = omega (arith, length-take (done + n - done) (drop done bytes), length-drop done bytes, piece_short size off len done n some short is) in
-    subst (λ m. IsPiece c.loop-done.pager (key_of c.args.region ((off + done) / size)) ((off + done) % size) m) (sym part) (is_piece size off len done n some short is p c.loop-done.pager c.args.region c.requires.range i.goes.same sized)
+    let done = c.loop-piece.done in
+    let i = c.loop-piece.invariant in
+    let front = c.loop-piece.yielded in
+    let piece : Piece = c.in-Some.piece in
+    let rest = rest_of c.next.new.self in
+    let whole : pieces_of z c.args.region off len ≡ front ++ piece ∷ rest = i.pieces ∙ ap (λ ps. front ++ ps) c.in-Some.ensures.steps in
+    let next : IsNext z c.args.region off len done piece = next_piece z c.args.region off len done front piece rest (c.pieces_cover.ensures z c.args.region off len c.requires.listed.some) whole i.bytes in
+    let part : length (take (done + piece.len - done) (drop done bytes)) ≡ piece.len = omega (arith, length-take (done + piece.len - done) (drop done bytes), length-drop done bytes, next.short) in
+    subst (λ n. IsPiece c.loop-piece.pager piece.key piece.place n) (sym part) (is_piece z c.args.region off len done piece next p c.loop-piece.pager c.requires.range i.goes.same refl)
 
 pub store-requires-clause-writable : goal.store-requires-clause-writable
-store-requires-clause-writable g c = ap (λ ss. may_store (slice_get ss c.args.region)) c.loop-done.invariant.goes.same.shapes ∙ c.requires.writable
-
-pub store-requires-clause-few : goal.store-requires-clause-few
-store-requires-clause-few g c = omega (arith, c.requires.range.few, c.loop-done.invariant.goes.spent)
-
-pub loop-done-preserved : goal.loop-done-preserved
-loop-done-preserved g c =
+store-requires-clause-writable g c =
     let p = c.args.pager.now in
-    let size = c.from-size.result in
-    let sized : p.page_size ≡ size = sym (c.from-size.ensures ∙ c.page_size.ensures.value) in
-    let some : 0 < size = omega (arith, c.page_size.ensures.some, c.from-size.ensures) in
-    let done = c.loop-done.done in
+    let z = p.page_size in
     let off = c.args.off in
     let bytes = c.args.bytes.now in
     let len = length bytes in
-    let i = c.loop-done.invariant in
-    let n = c.min-count.result in
-    let short : done < len = omega arith in
-    let is : n ≡ min (size - (off + done) % size) (len - done) = c.min-count.ensures in
-    let part : length (take (done + n - done) (drop done bytes)) ≡ n = omega (arith, length-take (done + n - done) (drop done bytes), length-drop done bytes, piece_short size off len done n some short is) in
-    let now = c.loop-done.pager in
+    let done = c.loop-piece.done in
+    let i = c.loop-piece.invariant in
+    let front = c.loop-piece.yielded in
+    let piece : Piece = c.in-Some.piece in
+    let rest = rest_of c.next.new.self in
+    let whole : pieces_of z c.args.region off len ≡ front ++ piece ∷ rest = i.pieces ∙ ap (λ ps. front ++ ps) c.in-Some.ensures.steps in
+    let next : IsNext z c.args.region off len done piece = next_piece z c.args.region off len done front piece rest (c.pieces_cover.ensures z c.args.region off len c.requires.listed.some) whole i.bytes in
+    ap (λ r. may_store (slice_get c.loop-piece.pager.shapes r)) next.of_region ∙ ap (λ ss. may_store (slice_get ss c.args.region)) i.goes.same.shapes ∙ c.requires.writable
+
+pub loop-piece-preserved : goal.loop-piece-preserved
+loop-piece-preserved g c =
+    let p = c.args.pager.now in
+    let z = p.page_size in
+    let off = c.args.off in
+    let bytes = c.args.bytes.now in
+    let len = length bytes in
+    let done = c.loop-piece.done in
+    let i = c.loop-piece.invariant in
+    let front = c.loop-piece.yielded in
+    let piece : Piece = c.in-Some.piece in
+    let rest = rest_of c.next.new.self in
+    let whole : pieces_of z c.args.region off len ≡ front ++ piece ∷ rest = i.pieces ∙ ap (λ ps. front ++ ps) c.in-Some.ensures.steps in
+    let next : IsNext z c.args.region off len done piece = next_piece z c.args.region off len done front piece rest (c.pieces_cover.ensures z c.args.region off len c.requires.listed.some) whole i.bytes in
+    let part : length (take (done + piece.len - done) (drop done bytes)) ≡ piece.len = omega (arith, length-take (done + piece.len - done) (drop done bytes), length-drop done bytes, next.short) in
+    let key = key_is z c.args.region off len done piece next in
+    let place : piece.place < z = omega (arith, next.some, next.within) in
+    let now = c.loop-piece.pager in
     let new = c.store.new.self in
     let e = c.in-Ok.ensures in
-    let page = (off + done) / size in
-    let place = (off + done) % size in
-    let at : page * size + place ≡ off + done = div-add-mod' (off + done) size in
-    let more = piece_short size off len done n some short is in
-    let piece = take (done + n - done) (drop done bytes) in
-    let below = page_below size off len done n some short is p now c.args.region c.requires.range i.goes.same sized in
+    let stored = take (done + piece.len - done) (drop done bytes) in
+    let short : done < len = omega (arith, next.some, next.short) in
+    let count : done + piece.len - done ≡ piece.len = omega arith in
     record {
-      goes = goes_more done n p now new i.goes (one_piece n now new e.same e.spent e.counts (goes_stand _ now new e.ok) (piece_some size off len done n some short is));
-      within = more;
-      border = elim (next_border size off len done n some short is) [
-        | inl h ↦ inl h
-        | inr h ↦ elim h [ inl k ↦ inr (inl (ap (λ z. (off + (done + n)) % z) sized ∙ k)) | inr k ↦ inr (inr k) ]
-      ];
-      others = λ k has other. e.others k (same_page p now i.goes.same k ∙ has) (λ h. other (ap (λ (j : Key). j.region) h)) ∙ i.others k has other;
+      goes = goes_more done piece.len p now new i.goes (one_piece piece.len now new e.same e.spent e.counts next.some);
+      within = next.short;
+      pieces = whole ∙ sym (append_assoc front (piece ∷ []) rest);
+      bytes = sum_by-append (λ (q : Piece). q.len) front (piece ∷ []) ∙ omega (arith, i.bytes, sum_by-cons (λ (q : Piece). q.len) piece []);
+      others = λ k has other. e.others k (same_page p now i.goes.same k ∙ has) (λ h. other (ap (λ (j : Key). j.region) h ∙ next.of_region)) ∙ i.others k has other;
       owes = λ k owed. elim (e.owes k owed) [
         | inl h ↦ i.owes k h
-        | inr h ↦ inr (stores_to p.page_size size off done page place c.args.region bytes k sized h at (omega (arith, piece_within size off len done n some short is, piece_some size off len done n some short is)) short)
+        | inr h ↦ inr (stores_to z z off done piece.key.page piece.place c.args.region bytes k refl (h ∙ key) next.begins place short)
       ];
       front = λ b h.
-          let total : length b ≡ pages_at p c.args.region * size = h.whole ∙ ap (λ z. pages_at p c.args.region * z) sized in
-          let inside : off + length bytes ≤ length b = omega (arith, c.requires.range.inside, total, ap (λ z. pages_at p c.args.region * z) sized) in
+          let inside : off + length bytes ≤ length b = omega (arith, c.requires.range.inside, h.whole) in
           let b' = spliced b off (take done bytes) in
-          let step = region_stored now new c.args.region page place size b' piece e.same (i.goes.same.page_size ∙ sized) (subst (λ m. page < m) (sym (same_pages p now i.goes.same c.args.region)) below) (omega (arith, part, piece_within size off len done n some short is)) e.bytes e.others (i.front b h) in
-          let exact : spliced b' (page * size + place) piece ≡ spliced b off (take (done + n) bytes) =
-          ap (λ j. spliced b' j piece) at ∙ ap (λ m. spliced b' (off + done) (take m (drop done bytes))) (omega arith) ∙ spliced-spliced b bytes off done n inside more in
+          let here : held new (key_of c.args.region piece.key.page) ≡ option_map (λ xs. spliced xs piece.place stored) (held now (key_of c.args.region piece.key.page)) = subst (λ k. held new k ≡ option_map (λ xs. spliced xs piece.place stored) (held now k)) key e.bytes in
+          let step = region_stored now new c.args.region piece.key.page piece.place z b' stored e.same i.goes.same.page_size (subst (λ m. piece.key.page < m) (sym (same_pages p now i.goes.same c.args.region)) (page_below z c.args.region off len done piece next p now c.requires.range i.goes.same refl)) (omega (arith, part, next.within)) here (λ k has ne. e.others k has (λ h. ne (h ∙ key))) (i.front b h) in
+          let exact : spliced b' (piece.key.page * z + piece.place) stored ≡ spliced b off (take (done + piece.len) bytes) =
+          ap (λ j. spliced b' j stored) next.begins ∙ ap (λ m. spliced b' (off + done) (take m (drop done bytes))) count ∙ spliced-spliced b bytes off done piece.len inside next.short in
           subst (λ xs. HoldsRegion new c.args.region xs) exact step;
+      made =
+          subst (λ es. GoesBy g.J.Journal.has_noted es [] p new) (ap (λ m. saves front bytes ++ Save piece.key piece.place (take m (drop done bytes)) ∷ []) count ∙ sym (accesses_snoc (λ k at its. Save k at its) front piece bytes done i.bytes))
+          (by_access g.J.Journal.has_noted (saves front bytes) p now new piece.key is_for_store (Save piece.key piece.place stored) i.goes.same i.made e.ok refl refl refl);
+      journals = e.made ∙ i.journals;
     }
 
 pub returns-in-Err-clause-goes : goal.returns-in-Err-clause-goes
 returns-in-Err-clause-goes g c =
     let p = c.args.pager.now in
-    let size = c.from-size.result in
-    let sized : p.page_size ≡ size = sym (c.from-size.ensures ∙ c.page_size.ensures.value) in
-    let some : 0 < size = omega (arith, c.page_size.ensures.some, c.from-size.ensures) in
-    let done = c.loop-done.done in
+    let z = p.page_size in
     let off = c.args.off in
     let bytes = c.args.bytes.now in
     let len = length bytes in
-    let i = c.loop-done.invariant in
-    let n = c.min-count.result in
-    let short : done < len = omega arith in
-    let is : n ≡ min (size - (off + done) % size) (len - done) = c.min-count.ensures in
+    let done = c.loop-piece.done in
+    let i = c.loop-piece.invariant in
+    let front = c.loop-piece.yielded in
+    let piece : Piece = c.in-Some.piece in
+    let rest = rest_of c.next.new.self in
+    let whole : pieces_of z c.args.region off len ≡ front ++ piece ∷ rest = i.pieces ∙ ap (λ ps. front ++ ps) c.in-Some.ensures.steps in
+    let next : IsNext z c.args.region off len done piece = next_piece z c.args.region off len done front piece rest (c.pieces_cover.ensures z c.args.region off len c.requires.listed.some) whole i.bytes in
     let e = c.in-Err.ensures in
-    goes_within (done + 1) len p c.store.new.self (goes_more done 1 p c.loop-done.pager c.store.new.self i.goes (one_piece 1 c.loop-done.pager c.store.new.self e.same e.spent e.counts (fails_stand _ c.loop-done.pager c.store.new.self c.in-Err.fault e.err) (omega arith))) (omega (arith, short))
+    goes_within (done + 1) len p c.store.new.self (goes_more done 1 p c.loop-piece.pager c.store.new.self i.goes (one_piece 1 c.loop-piece.pager c.store.new.self e.same e.spent e.counts (omega arith))) (omega (arith, next.some, next.short))
+
+pub returns-in-Err-clause-journals : goal.returns-in-Err-clause-journals
+returns-in-Err-clause-journals g c = c.in-Err.ensures.made ∙ c.loop-piece.invariant.journals
 
 pub returns-in-Err-clause-others : goal.returns-in-Err-clause-others
 returns-in-Err-clause-others g c = λ k has other.
-    let i = c.loop-done.invariant in
-    c.in-Err.ensures.untouched k (same_page c.args.pager.now c.loop-done.pager i.goes.same k ∙ has) ∙ i.others k has other
+    let i = c.loop-piece.invariant in
+    c.in-Err.ensures.untouched k (same_page c.args.pager.now c.loop-piece.pager i.goes.same k ∙ has) ∙ i.others k has other
 
 pub returns-in-Err-clause-owes : goal.returns-in-Err-clause-owes
 returns-in-Err-clause-owes g c = λ k owed.
     let p = c.args.pager.now in
-    let size = c.from-size.result in
-    let sized : p.page_size ≡ size = sym (c.from-size.ensures ∙ c.page_size.ensures.value) in
-    let some : 0 < size = omega (arith, c.page_size.ensures.some, c.from-size.ensures) in
-    let done = c.loop-done.done in
+    let z = p.page_size in
     let off = c.args.off in
     let bytes = c.args.bytes.now in
     let len = length bytes in
-    let i = c.loop-done.invariant in
-    let n = c.min-count.result in
-    let short : done < len = omega arith in
-    let is : n ≡ min (size - (off + done) % size) (len - done) = c.min-count.ensures in
+    let done = c.loop-piece.done in
+    let i = c.loop-piece.invariant in
+    let front = c.loop-piece.yielded in
+    let piece : Piece = c.in-Some.piece in
+    let rest = rest_of c.next.new.self in
+    let whole : pieces_of z c.args.region off len ≡ front ++ piece ∷ rest = i.pieces ∙ ap (λ ps. front ++ ps) c.in-Some.ensures.steps in
+    let next : IsNext z c.args.region off len done piece = next_piece z c.args.region off len done front piece rest (c.pieces_cover.ensures z c.args.region off len c.requires.listed.some) whole i.bytes in
+    let key = key_is z c.args.region off len done piece next in
+    let place : piece.place < z = omega (arith, next.some, next.within) in
+    let short : done < len = omega (arith, next.some, next.short) in
     elim (c.in-Err.ensures.owes k owed) [
       | inl h ↦ i.owes k h
-      | inr h ↦ inr (stores_to p.page_size size off done ((off + done) / size) ((off + done) % size) c.args.region bytes k sized h (div-add-mod' (off + done) size) (omega (arith, piece_within size off len done n some short is, piece_some size off len done n some short is)) short)
+      | inr h ↦ inr (stores_to z z off done piece.key.page piece.place c.args.region bytes k refl (h ∙ key) next.begins place short)
     ]
 
 pub returns-in-Err-clause-fault : goal.returns-in-Err-clause-fault
 returns-in-Err-clause-fault g c =
     let p = c.args.pager.now in
-    let size = c.from-size.result in
-    let sized : p.page_size ≡ size = sym (c.from-size.ensures ∙ c.page_size.ensures.value) in
-    let some : 0 < size = omega (arith, c.page_size.ensures.some, c.from-size.ensures) in
-    let done = c.loop-done.done in
+    let z = p.page_size in
     let off = c.args.off in
     let bytes = c.args.bytes.now in
     let len = length bytes in
-    let i = c.loop-done.invariant in
-    let n = c.min-count.result in
-    let short : done < len = omega arith in
-    let is : n ≡ min (size - (off + done) % size) (len - done) = c.min-count.ensures in (
+    let done = c.loop-piece.done in
+    let i = c.loop-piece.invariant in
+    let front = c.loop-piece.yielded in
+    let piece : Piece = c.in-Some.piece in
+    let rest = rest_of c.next.new.self in
+    let whole : pieces_of z c.args.region off len ≡ front ++ piece ∷ rest = i.pieces ∙ ap (λ ps. front ++ ps) c.in-Some.ensures.steps in
+    let next : IsNext z c.args.region off len done piece = next_piece z c.args.region off len done front piece rest (c.pieces_cover.ensures z c.args.region off len c.requires.listed.some) whole i.bytes in
+    let e = c.in-Err.ensures in
+    let f = c.in-Err.fault in
+    let now = c.loop-piece.pager in
+    let new = c.store.new.self in
+    let ended : piece.key ≡ piece_key z c.args.region (off + done) = key_is z c.args.region off len done piece next ∙ ap (key_of c.args.region) (sym (page_is z c.args.region off len done piece next)) in
+    let fails : FailsBy g.J.Journal.has_noted (saves front bytes) (piece_key z c.args.region (off + done)) f p new = by_failure g.J.Journal.has_noted (saves front bytes) p now new piece.key (piece_key z c.args.region (off + done)) is_for_store (λ x. one.owes_with x.core piece.key) f i.goes.same ended i.made e.err e.fault.stripe in (
       done,
-      faults_at p c.loop-done.pager c.store.new.self c.args.region off len done size (λ k. StoresTo p.page_size k (store_line c.args.region off bytes)) c.in-Err.fault i.goes i.owes sized short i.border c.in-Err.ensures.fault,
-      λ b h. region_kept c.loop-done.pager c.store.new.self c.args.region (spliced b off (take done bytes)) c.in-Err.ensures.same c.in-Err.ensures.untouched (i.front b h),
+      faults_at p now new c.args.region off len done z piece (λ k. StoresTo z k (store_line c.args.region off bytes)) f next i.goes i.owes refl e.fault,
+      (λ b h. region_kept now new c.args.region (spliced b off (take done bytes)) e.same e.untouched (i.front b h)),
+      record {
+        pieces = front;
+        before = record { next = piece; rest = rest; all_are = whole; bytes = i.bytes };
+        failure = fails.failure;
+        fails = fails.fails;
+        goes = fails.goes;
+      },
     )
 
 pub returns-clause-goes : goal.returns-clause-goes
-returns-clause-goes g c = goes_within c.loop-done.done (length c.args.bytes.now) c.args.pager.now c.loop-done.pager c.loop-done.invariant.goes (omega (arith, c.loop-done.invariant.within))
+returns-clause-goes g c = goes_within c.loop-piece.done (length c.args.bytes.now) c.args.pager.now c.loop-piece.pager c.loop-piece.invariant.goes (omega (arith, c.loop-piece.invariant.within))
 
 pub returns-clause-done : goal.returns-clause-done
 returns-clause-done g c = λ b h.
-    subst (λ xs. HoldsRegion c.loop-done.pager c.args.region (spliced b c.args.off xs)) (take_all c.loop-done.done c.args.bytes.now (omega (arith, c.loop-done-test.false))) (c.loop-done.invariant.front b h)
+    let i = c.loop-piece.invariant in
+    let z = c.args.pager.now.page_size in
+    let len = length c.args.bytes.now in
+    let all : c.loop-piece.done ≡ len = all_done z c.args.region c.args.off len c.loop-piece.done c.loop-piece.yielded (c.pieces_cover.ensures z c.args.region c.args.off len c.requires.listed.some) (i.pieces ∙ ap (λ ps. c.loop-piece.yielded ++ ps) c.in-None.ensures.steps.0) i.bytes in
+    subst (λ xs. HoldsRegion c.loop-piece.pager c.args.region (spliced b c.args.off xs)) (take_all c.loop-piece.done c.args.bytes.now (omega (arith, all))) (i.front b h)
+
+pub returns-clause-made : goal.returns-clause-made
+returns-clause-made g c =
+    let i = c.loop-piece.invariant in
+    let z = c.args.pager.now.page_size in
+    let len = length c.args.bytes.now in
+    let front = c.loop-piece.yielded in
+    let pieces : pieces_of z c.args.region c.args.off len ≡ front ++ [] = i.pieces ∙ ap (λ ps. front ++ ps) c.in-None.ensures.steps.0 in
+    subst (λ ps. GoesBy g.J.Journal.has_noted (saves ps c.args.bytes.now) [] c.args.pager.now c.loop-piece.pager) (sym (pieces ∙ append-nil front)) i.made

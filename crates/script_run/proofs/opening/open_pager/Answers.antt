@@ -1,41 +1,38 @@
-use Rattle.std.proofs.Common.{ℕ, length, refl, ap, ◌∙◌, arith, map}
-use Rattle.workload_text.specs.View.{lines_of}
-use Rattle.workload_text.specs.Accepted.{regions_of}
-use Rattle.page_model.specs.declared.journal.NoJournal.{NoJournal}
+use Rattle.std.proofs.Common.{◌≡◌, length, map, refl, ap, ◌∙◌, arith}
+use Rattle.region_table.specs.Regions.{shapes_of, page_count}
 use Rattle.serial_pager.specs.Pagers.{rows_of, CanOpen}
 use Rattle.serial_pager.specs.declared.pager.PagerConfig.{PagerConfig}
-use Rattle.script_run.specs.Running.{shape_of}
+use Rattle.workload_text.specs.Accepted.{regions_of}
+use Rattle.script_run.specs.Running.{MayOpen, shape_of}
 use Rattle.script_run.proofs.Openings.{sizes_small}
-use Rattle.script_run.proofs.Shapes.{maps_small}
 use Rattle.script_run.proofs.FittedLanes.{can_open, whole_rows}
 use Rattle.script_run.proofs.OpenedOn.{opens_on}
+use Rattle.script_run.proofs.Tabled.{shapes_are, few_of_table}
 use Rattle.script_run.proofs.opening.open_pager.Goals as goal
-
-pub shapes_of-requires-clause-small : goal.shapes_of-requires-clause-small
-shapes_of-requires-clause-small g c = maps_small c.args.workload.now c.requires.runnable c.requires.built
 
 pub open-requires : goal.open-requires
 open-requires g c =
     let s = c.args.settings.now in
-    let gs = regions_of (lines_of c.args.workload.now) in
+    let lines = c.requires.may.0 in
+    let may : MayOpen s c.args.table.now lines (rows_of g.S.Store.seen c.args.lanes) c.args.journals.now.items = c.requires.may.1 in
+    let gs = regions_of lines in
     let config : PagerConfig = record { layout = s.layout; faults = s.faults; high = s.high; low = s.low; shapes = c.in-Ok.shapes } in
+    let shapes : c.in-Ok.shapes.items ≡ map (shape_of s.layout.page_size) gs = c.in-Ok.ensures.shapes ∙ ap shapes_of may.table_is ∙ shapes_are s.layout.page_size lines may.built in
+    let few = few_of_table s.layout.page_size lines may.built (omega (arith, c.in-Ok.ensures.few, ap page_count may.table_is)) in
     record {
-      can = can_open s.layout gs (rows_of g.S.Store.seen c.args.lanes) c.requires.lanes s c.requires.settings refl c.requires.runnable.regions c.requires.pages config refl
-          (c.in-Ok.ensures ∙ ap (λ (z : ℕ). map (shape_of z) gs) c.page_size.ensures)
-          (length c.from_vec.result.items) (omega (arith, ap (length {A = NoJournal}) c.from_vec.ensures.items, c.in-Ok-vec.ensures.len, c.stripes.ensures));
+      can = can_open s.layout gs (rows_of g.S.Store.seen c.args.lanes) may.lanes s may.settings refl may.runnable.regions few config refl shapes
+          (length c.replace-own.result.items) (omega (arith, may.as_many, ap (λ l. length l.items) c.replace-own.ensures.value));
     }
 
 pub returns-in-Ok-open-clause-opened : goal.returns-in-Ok-open-clause-opened
-returns-in-Ok-open-clause-opened g c =
+returns-in-Ok-open-clause-opened g c = λ lines may.
     let s = c.args.settings.now in
-    let lines = lines_of c.args.workload.now in
+    let rows = rows_of g.S.Store.seen c.args.lanes in
     let gs = regions_of lines in
     let config : PagerConfig = record { layout = s.layout; faults = s.faults; high = s.high; low = s.low; shapes = c.in-Ok.shapes } in
-    let can : CanOpen config (rows_of g.S.Store.seen c.args.lanes) (length c.from_vec.result.items) =
-    can_open s.layout gs (rows_of g.S.Store.seen c.args.lanes) c.requires.lanes s c.requires.settings refl c.requires.runnable.regions c.requires.pages config refl
-    (c.in-Ok.ensures ∙ ap (λ (z : ℕ). map (shape_of z) gs) c.page_size.ensures)
-    (length c.from_vec.result.items) (omega (arith, ap (length {A = NoJournal}) c.from_vec.ensures.items, c.in-Ok-vec.ensures.len, c.stripes.ensures)) in
-    opens_on s.layout gs (rows_of g.S.Store.seen c.args.lanes) c.requires.lanes (whole_rows g.S.Store.seen (λ x page. g.met.S.Store.whole_pages x page) c.args.lanes.stripes.items)
-    config c.from_vec.result.items can c.in-Ok-open.pager c.in-Ok-open.ensures.opened refl
-    (c.in-Ok.ensures ∙ ap (λ (z : ℕ). map (shape_of z) gs) c.page_size.ensures)
-    c.requires.lanes.whole (sizes_small gs lines c.requires.built c.requires.runnable.fit)
+    let shapes : c.in-Ok.shapes.items ≡ map (shape_of s.layout.page_size) gs = c.in-Ok.ensures.shapes ∙ ap shapes_of may.table_is ∙ shapes_are s.layout.page_size lines may.built in
+    let few = few_of_table s.layout.page_size lines may.built (omega (arith, c.in-Ok.ensures.few, ap page_count may.table_is)) in
+    let own : c.replace-own.result.items ≡ c.args.journals.now.items = ap (λ l. l.items) c.replace-own.ensures.value in
+    let can : CanOpen config rows (length c.args.journals.now.items) = can_open s.layout gs rows may.lanes s may.settings refl may.runnable.regions few config refl shapes (length c.args.journals.now.items) may.as_many in
+    opens_on s.layout gs rows may.lanes (whole_rows g.S.Store.seen (λ x page. g.met.S.Store.whole_pages x page) c.args.lanes.stripes.items)
+    s refl config refl c.args.journals.now.items can c.in-Ok-open.pager (rw own at c.in-Ok-open.ensures.opened) shapes may.lanes.whole (sizes_small gs lines may.built may.runnable.fit)

@@ -1,42 +1,105 @@
-use Rattle.std.proofs.Common.{[], refl, ap, arith}
+use Rattle.std.proofs.Common.{[], map, refl, sym, ap, subst, ◌∙◌, arith}
+use Rattle.std.proofs.lemmas.Simd.{map-map}
 use Rattle.workload_text.specs.View.{lines_of}
 use Rattle.workload_text.specs.Accepted.{regions_of}
 use Rattle.serial_pager.specs.Pagers.{rows_of}
-use Rattle.script_run.specs.FitsSerial.{spread_of}
-use Rattle.script_run.specs.Running.{Ran}
+use Rattle.script_run.specs.FitsSerial.{spread_of, EndSeen}
+use Rattle.script_run.specs.FitsJournals.{FitsJournals}
+use Rattle.script_run.specs.Running.{MayOpen, OpensOn, Ran}
+use Rattle.script_run.specs.Tables.{table_of}
 use Rattle.script_run.proofs.SerialFits.{may_run, run_origins, fits_serial}
+use Rattle.script_run.proofs.Journaled.{fits_journals}
 use Rattle.script_run.proofs.serial_run.serial.Goals as goal
 
+pub open_pager-requires : goal.open_pager-requires
+open_pager-requires g c =
+    let lines = lines_of c.args.workload.now in
+    let set = c.args.settings.now in
+    let rows = rows_of g.S.Store.seen c.args.lanes in
+    let js = c.args.journals.now.items in
+    let may : MayOpen set c.args.table lines rows js = record { runnable = c.requires.runnable; built = c.requires.built; settings = c.requires.settings; table_is = c.requires.table; lanes = c.requires.lanes; as_many = c.requires.journals } in
+    record { may = (lines, may) }
+
+pub run_scripts-requires-clause-table : goal.run_scripts-requires-clause-table
+run_scripts-requires-clause-table g c =
+    let lines = lines_of c.args.workload.now in
+    let set = c.args.settings.now in
+    let rows = rows_of g.S.Store.seen c.args.lanes in
+    let js = c.args.journals.now.items in
+    let may : MayOpen set c.args.table lines rows js = record { runnable = c.requires.runnable; built = c.requires.built; settings = c.requires.settings; table_is = c.requires.table; lanes = c.requires.lanes; as_many = c.requires.journals } in
+    let opens : OpensOn set (regions_of lines) rows js c.in-Ok-open_pager.pager = c.in-Ok-open_pager.ensures.opened lines may in
+    c.requires.table ∙ ap (λ z. table_of z lines) (sym opens.shaped.page_size)
+
 pub run_scripts-requires-clause-may : goal.run_scripts-requires-clause-may
-run_scripts-requires-clause-may g c = (
-  spread_of c.args.settings.now.layout,
-  may_run c.args.settings.now.layout (lines_of c.args.workload.now) (rows_of g.S.Store.seen c.args.lanes) c.requires.runnable c.requires.built c.in-Ok.replies c.in-Ok-open_pager.pager c.in-Ok-open_pager.ensures.opened
-      (omega (arith, c.in-Some.ensures, c.in-Ok.ensures.room)) c.in-Ok.ensures.loaded,
-)
+run_scripts-requires-clause-may g c =
+    let lines = lines_of c.args.workload.now in
+    let set = c.args.settings.now in
+    let rows = rows_of g.S.Store.seen c.args.lanes in
+    let js = c.args.journals.now.items in
+    let may : MayOpen set c.args.table lines rows js = record { runnable = c.requires.runnable; built = c.requires.built; settings = c.requires.settings; table_is = c.requires.table; lanes = c.requires.lanes; as_many = c.requires.journals } in
+    let opens : OpensOn set (regions_of lines) rows js c.in-Ok-open_pager.pager = c.in-Ok-open_pager.ensures.opened lines may in
+    (spread_of set.layout, may_run set lines rows js c.requires.runnable c.requires.built c.in-Ok.replies c.in-Ok-open_pager.pager opens (omega (arith, c.in-Some.ensures, c.in-Ok.ensures.room)) c.in-Ok.ensures.loaded)
 
 pub write_dirty-failed-requires : goal.write_dirty-failed-requires
 write_dirty-failed-requires g c =
     let lines = lines_of c.args.workload.now in
-    let opened = c.in-Ok-open_pager.ensures.opened in
-    let ran : Ran (spread_of c.args.settings.now.layout) (regions_of lines) [] lines c.in-Ok.replies c.run_scripts.new.replies c.in-Ok-open_pager.pager c.run_scripts.new.pager = c.run_scripts.ensures (spread_of c.args.settings.now.layout) opened.shaped in
-    record { few = omega (arith, ran.pieces, opened.spent, c.requires.runnable.commands) }
+    let set = c.args.settings.now in
+    let rows = rows_of g.S.Store.seen c.args.lanes in
+    let js = c.args.journals.now.items in
+    let may : MayOpen set c.args.table lines rows js = record { runnable = c.requires.runnable; built = c.requires.built; settings = c.requires.settings; table_is = c.requires.table; lanes = c.requires.lanes; as_many = c.requires.journals } in
+    let opens : OpensOn set (regions_of lines) rows js c.in-Ok-open_pager.pager = c.in-Ok-open_pager.ensures.opened lines may in
+    let ran : Ran g.J.Journal.has_noted (spread_of set.layout) (regions_of lines) [] lines c.in-Ok.replies c.run_scripts.new.replies c.in-Ok-open_pager.pager c.run_scripts.new.pager = c.run_scripts.ensures.ran (spread_of set.layout) opens.shaped in
+    record { few = omega (arith, ran.pieces, opens.spent, c.requires.runnable.commands) }
 
 pub returns-clause-fits : goal.returns-clause-fits
 returns-clause-fits g c =
     let lines = lines_of c.args.workload.now in
-    let layout = c.args.settings.now.layout in
-    let opened = c.in-Ok-open_pager.ensures.opened in
-    let ran : Ran (spread_of layout) (regions_of lines) [] lines c.in-Ok.replies c.run_scripts.new.replies c.in-Ok-open_pager.pager c.run_scripts.new.pager = c.run_scripts.ensures (spread_of layout) opened.shaped in
+    let set = c.args.settings.now in
+    let rows = rows_of g.S.Store.seen c.args.lanes in
+    let js = c.args.journals.now.items in
+    let may : MayOpen set c.args.table lines rows js = record { runnable = c.requires.runnable; built = c.requires.built; settings = c.requires.settings; table_is = c.requires.table; lanes = c.requires.lanes; as_many = c.requires.journals } in
+    let opens : OpensOn set (regions_of lines) rows js c.in-Ok-open_pager.pager = c.in-Ok-open_pager.ensures.opened lines may in
+    let ran : Ran g.J.Journal.has_noted (spread_of set.layout) (regions_of lines) [] lines c.in-Ok.replies c.run_scripts.new.replies c.in-Ok-open_pager.pager c.run_scripts.new.pager = c.run_scripts.ensures.ran (spread_of set.layout) opens.shaped in
+    let p = c.in-Ok-open_pager.pager in
+    let q = c.run_scripts.new.pager in
+    let z = c.write_dirty-failed.new.self in
     let w = c.write_dirty-failed.ensures in
-    fits_serial layout lines (rows_of g.S.Store.seen c.args.lanes) (rows_of g.S.Store.seen c.into_parts-lanes.result.0) c.requires.lanes c.requires.runnable.fit c.in-Ok.replies c.run_scripts.new.replies c.in-Ok-open_pager.pager c.run_scripts.new.pager c.write_dirty-failed.new.self opened ran w.same c.into_parts-lanes.ensures.lanes
-    w.held w.counts _ w.entries w.tried c.write_dirty-failed.result w.failed w.stored
-    (record { text = c.into_text.result.items; faulted = c.is_faulted-faulted.result; loaded = c.run_scripts.new.replies.loaded; sum = c.run_scripts.new.replies.sum })
-    (ap (λ (b : _). b.items) c.into_text.ensures) c.is_faulted-faulted.ensures refl refl c.in-Ok.ensures.empty c.in-Ok.ensures.faulted c.in-Ok.ensures.loaded c.in-Ok.ensures.sum
+    let ends = rows_of g.S.Store.seen c.into_parts-lanes.result.0 in
+    let e : EndSeen = record { text = c.into_text.result.items; faulted = c.is_faulted-faulted.result; loaded = c.run_scripts.new.replies.loaded; sum = c.run_scripts.new.replies.sum } in
+    let run = fits_serial g.J.Journal.has_noted set lines rows ends js c.requires.lanes c.requires.runnable.fit c.in-Ok.replies c.run_scripts.new.replies p q z opens ran w.same c.into_parts-lanes.ensures.lanes
+    w.held w.counts w.owes c.unowed_is_kept.ensures.kept w.tried c.write_dirty-failed.result w.failed w.stored
+    e (ap (λ (b : _). b.items) c.into_text.ensures) c.is_faulted-faulted.ensures refl refl c.in-Ok.ensures.empty c.in-Ok.ensures.faulted c.in-Ok.ensures.loaded c.in-Ok.ensures.sum in
+    let noted = c.put_journals.new.list.items in
+    let journals = fits_journals g.J.Journal.has_noted set lines rows ends js c.requires.lanes c.requires.runnable.fit c.in-Ok.replies c.run_scripts.new.replies p q z opens ran w.same c.into_parts-lanes.ensures.lanes
+    c.args.table c.requires.table c.requires.built c.requires.empty c.write_dirty-failed.result w.entries c.service_knows.ensures.like
+    noted (c.put_journals.ensures ∙ c.into_parts-lanes.ensures.journals) in
+    let by_replies = subst (λ rs. FitsJournals g.J.Journal.has_noted set c.args.table lines rows ends rs c.write_dirty-failed.result noted) (sym run.1) journals in
+    (run.0, subst (λ f. FitsJournals g.J.Journal.has_noted set c.args.table lines rows ends run.0.replies f noted) (sym run.2) by_replies)
 
 pub returns-clause-origins : goal.returns-clause-origins
 returns-clause-origins g c =
     let lines = lines_of c.args.workload.now in
-    let layout = c.args.settings.now.layout in
-    let opened = c.in-Ok-open_pager.ensures.opened in
-    let ran : Ran (spread_of layout) (regions_of lines) [] lines c.in-Ok.replies c.run_scripts.new.replies c.in-Ok-open_pager.pager c.run_scripts.new.pager = c.run_scripts.ensures (spread_of layout) opened.shaped in
-    run_origins layout lines (rows_of g.S.Store.seen c.args.lanes) (rows_of g.S.Store.seen c.into_parts-lanes.result.0) c.requires.lanes c.requires.runnable.fit c.in-Ok.replies c.run_scripts.new.replies c.in-Ok-open_pager.pager c.run_scripts.new.pager c.write_dirty-failed.new.self opened ran c.write_dirty-failed.ensures.same c.into_parts-lanes.ensures.lanes
+    let set = c.args.settings.now in
+    let rows = rows_of g.S.Store.seen c.args.lanes in
+    let js = c.args.journals.now.items in
+    let may : MayOpen set c.args.table lines rows js = record { runnable = c.requires.runnable; built = c.requires.built; settings = c.requires.settings; table_is = c.requires.table; lanes = c.requires.lanes; as_many = c.requires.journals } in
+    let opens : OpensOn set (regions_of lines) rows js c.in-Ok-open_pager.pager = c.in-Ok-open_pager.ensures.opened lines may in
+    let ran : Ran g.J.Journal.has_noted (spread_of set.layout) (regions_of lines) [] lines c.in-Ok.replies c.run_scripts.new.replies c.in-Ok-open_pager.pager c.run_scripts.new.pager = c.run_scripts.ensures.ran (spread_of set.layout) opens.shaped in
+    run_origins g.J.Journal.has_noted set lines rows (rows_of g.S.Store.seen c.into_parts-lanes.result.0) js c.requires.lanes c.requires.runnable.fit c.in-Ok.replies c.run_scripts.new.replies c.in-Ok-open_pager.pager c.run_scripts.new.pager c.write_dirty-failed.new.self opens ran c.write_dirty-failed.ensures.same c.into_parts-lanes.ensures.lanes
+
+pub returns-clause-journals : goal.returns-clause-journals
+returns-clause-journals g c =
+    let lines = lines_of c.args.workload.now in
+    let set = c.args.settings.now in
+    let rows = rows_of g.S.Store.seen c.args.lanes in
+    let js = c.args.journals.now.items in
+    let may : MayOpen set c.args.table lines rows js = record { runnable = c.requires.runnable; built = c.requires.built; settings = c.requires.settings; table_is = c.requires.table; lanes = c.requires.lanes; as_many = c.requires.journals } in
+    let opens : OpensOn set (regions_of lines) rows js c.in-Ok-open_pager.pager = c.in-Ok-open_pager.ensures.opened lines may in
+    let p = c.in-Ok-open_pager.pager in
+    let z = c.write_dirty-failed.new.self in
+    ap (map g.J.Journal.made_with) (c.put_journals.ensures ∙ c.into_parts-lanes.ensures.journals)
+    ∙ map-map g.J.Journal.made_with (λ x. x.journal) z.stripes
+    ∙ c.write_dirty-failed.ensures.made
+    ∙ c.run_scripts.ensures.journals
+    ∙ sym (map-map g.J.Journal.made_with (λ x. x.journal) p.stripes)
+    ∙ ap (map g.J.Journal.made_with) opens.journals_are

@@ -1,4 +1,4 @@
-use Rattle.std.proofs.Common.{◌≡◌, ℕ, true, List, [], length, sym, ap, subst, ◌∙◌, arith}
+use Rattle.std.proofs.Common.{◌≡◌, ℕ, true, List, length, sym, ap, subst, ◌∙◌, arith}
 use Rattle.std.proofs.lemmas.List.{length-map}
 use Rattle.workload_text.specs.Grammar.{Region}
 use Rattle.workload_text.specs.Accepted.{regions_of}
@@ -7,8 +7,8 @@ use Rattle.workload_text.specs.declared.workload.MapLine.{MapLine}
 use Rattle.workload_text.specs.declared.workload.Parsed.{Parsed}
 use Rattle.script_run.specs.Fits.{has_whole_pages}
 use Rattle.script_run.proofs.Zeros.{regions_are}
-use Rattle.umapsh.specs.Regions.{region_seen}
-use Rattle.umapsh.proofs.RegionRules.{table_is, whole_pages}
+use Rattle.script_run.specs.RegionRules.{region_seen}
+use Rattle.script_run.proofs.RegionRules.{table_is}
 use Rattle.umapsh.proofs.Refused.{text_stops, same_call, as_many, region_stops, unbuilt_refused, unrefused}
 use Rattle.umapsh.proofs.top.accept.Goals as goal
 
@@ -54,9 +54,6 @@ returns-clause-table c = table_is c.page_size.result c.args.layout.page_size c.a
 
 pub returns-clause-whole : goal.returns-clause-whole
 returns-clause-whole c =
-    let p = c.in-Ok.parsed in
-    let w = p.workload in
-    let same = same_call c.page_size.result w.maps.items c.as_slice-maps.result.now p.map_lines.items c.as_slice-lines.result.now (c.page_size.ensures ∙ c.requires.page_size) c.as_slice-maps.ensures c.as_slice-lines.ensures in
-    let count : length p.map_lines.items ≡ length w.maps.items = as_many c.args.bytes.now w p.map_lines.items c.in-Ok.ensures.spelt c.in-Ok.ensures.numbered ∙ length-map w.maps.items region_seen in
-    subst (λ (z : ℕ). has_whole_pages z (regions_of (lines_of w)) ≡ true) (sym c.requires.page_size)
-    (subst (λ (gs : List Region). has_whole_pages 4096 gs ≡ true) (sym (regions_are w)) (whole_pages 4096 [] w.maps.items p.map_lines.items count (same ∙ c.in-Ok-table_of_maps.ensures.accepted)))
+    let w = c.in-Ok.parsed.workload in
+    subst (λ (z : ℕ). has_whole_pages z (regions_of (lines_of w)) ≡ true) c.page_size.ensures
+    (subst (λ (gs : List Region). has_whole_pages c.page_size.result gs ≡ true) (sym (regions_are w)) (rw c.as_slice-maps.ensures at c.in-Ok-table_of_maps.ensures.whole))

@@ -1,14 +1,8 @@
 use Rattle.std.proofs.Common.{ap, ◌∙◌, arith}
 use Rattle.workload_text.specs.View.{lines_of}
 use Rattle.script_run.proofs.InMemory.{memory_text}
-use Rattle.script_run.proofs.Shapes.{few_of_large}
 use Rattle.script_run.specs.Serial.{serial_text}
 use Rattle.umapsh.proofs.top.run.Goals as goal
-
-pub serial-requires-clause-pages : goal.serial-requires-clause-pages
-serial-requires-clause-pages c =
-    let w = c.in-Ok.accepted.workload in
-    few_of_large w c.defaults-settings.result.layout.page_size c.in-Ok.ensures.runnable c.in-Ok.ensures.built (omega (arith, c.defaults-settings.ensures.page_size))
 
 pub serial-requires-clause-settings : goal.serial-requires-clause-settings
 serial-requires-clause-settings c =
@@ -21,6 +15,6 @@ returns-in-Ok-serial-clause-ok c =
     let end = c.in-Ok-serial.end in (
       lines,
       c.in-Ok.ensures.accepted,
-      memory_text c.defaults-settings.result.layout lines c.in-Ok-memory_lanes.lanes.stripes.items end.lanes.stripes.items (record { text = end.text.items; faulted = end.faulted; loaded = end.loaded; sum = end.sum }) c.in-Ok-memory_lanes.ensures.fit c.in-Ok.ensures.runnable.fit c.in-Ok-serial.ensures.fits
+      memory_text c.defaults-settings.result.layout lines c.in-Ok-memory_lanes.lanes.stripes.items end.lanes.stripes.items (record { text = end.text.items; faulted = end.faulted; loaded = end.loaded; sum = end.sum }) c.in-Ok-memory_lanes.ensures.fit c.in-Ok.ensures.runnable.fit c.in-Ok-serial.ensures.fits.0
           ∙ ap (λ b. serial_text b lines) c.in-Ok-memory_lanes.ensures.zeros,
     )

@@ -5,14 +5,50 @@
 ghost use Rattle.std.specs.Prelude.{◌≡◌, ◌≤◌, true, [], map, length, IfOk, OnOk, IfErr, Some, None};
 ghost use Rattle.page_base.specs.Layouts.{is_page_size};
 ghost use Rattle.region_table.specs.Regions.{seen_of, backing_of};
-ghost use Rattle.workload_text.specs.View.{backing_of as backing_of_line};
-ghost use Rattle.umapsh.specs.Regions.{region_seen, rule, region_refusal, IfRegionRefused};
+ghost use Rattle.workload_text.specs.View.{backing_of as backing_of_line, region};
+ghost use Rattle.script_run.specs.Fits.{has_whole_pages};
+ghost use Rattle.script_run.specs.declared.regions.TableFault.TheVariants as fault;
+ghost use Rattle.script_run.specs.RegionRules.{region_seen, rule, region_refusal, IfRegionRefused};
 
-use crate::refusal::{RegionKind, RegionRefusal, TableFault};
 use page_base::{Bytes, OutOfMemory};
 use region_table::{Kind, RegionFault, RegionSpec, RegionTable};
 use std::alloc::Global;
 use workload_text::{MapLine, StoreKind};
+
+/// The rules on regions, in the order in which they are tested.
+#[derive(Clone, Copy, Debug, PartialEq, Eq)]
+pub enum RegionKind {
+    /// An earlier region has this name.
+    SameName,
+    /// An earlier region has the same path, or one of the two lies in the other's folder.
+    SameStore,
+    /// The length, or that of one file, isn't made of whole pages, or the files don't fit the length.
+    BadLength,
+    /// All regions so far have more than 1048576 pages.
+    TooManyPages,
+}
+
+/// The first `map` line whose region breaks a rule, counted from 1, and the rule.
+#[derive(Clone, Copy, Debug, PartialEq, Eq)]
+pub struct RegionRefusal {
+    pub line: u32,
+    pub kind: RegionKind,
+}
+
+/// Why regions make no table.
+#[derive(Clone, Copy, Debug)]
+pub enum TableFault {
+    Refused(RegionRefusal),
+    OutOfMemory,
+}
+
+impl From<OutOfMemory> for TableFault {
+    ghost from_gives = { λ _ e. e ≡ fault.OutOfMemory };
+
+    fn from(_: OutOfMemory) -> TableFault {
+        TableFault::OutOfMemory
+    }
+}
 
 fn kind_of(alloc: Global, store: &StoreKind) -> Result<Kind, OutOfMemory>
     ensures { IfOk result (λ k. backing_of k ≡ backing_of_line store.now) }
@@ -68,6 +104,7 @@ pub fn table_of_maps(
     requires as_many { length lines.now ≡ length maps.now }
     ensures table { IfOk result (λ t. t ≡ record { page_size = page_size; regions = map region_seen maps.now }) }
     ensures accepted { OnOk result (region_refusal page_size [] (map region_seen maps.now) lines.now ≡ None) }
+    ensures whole { OnOk result (has_whole_pages page_size (map region maps.now) ≡ true) }
     ensures refused { IfErr result (λ f. IfRegionRefused f (λ r. region_refusal page_size [] (map region_seen maps.now) lines.now ≡ Some r)) }
 {
     let mut table = RegionTable::new(alloc, page_size)?;

@@ -1,6 +1,6 @@
 use Rattle.std.proofs.Common.{◌≡◌, [], map, take, drop}
-use Rattle.umapsh.specs.Regions.{region_seen, region_refusal}
-use Rattle.umapsh.proofs.regions.table_of_maps.Given as goal
+use Rattle.script_run.specs.RegionRules.{region_seen, region_refusal}
+use Rattle.script_run.proofs.regions.table_of_maps.Given as goal
 
 abbrev pub invariant-loop-i : goal.invariant-loop-i
 invariant-loop-i l = record {

@@ -19,9 +19,9 @@ use Rattle.workload_text.specs.declared.workload.Script.{Script}
 use Rattle.workload_text.specs.declared.workload.Workload.{Workload}
 use Rattle.script_run.specs.Fits.{has_whole_pages}
 use Rattle.script_run.specs.Tables.{regions_seen, table_of}
-use Rattle.umapsh.specs.Regions.{region_seen, rule, or_behind, region_refusal}
-use Rattle.umapsh.specs.declared.refusal.RegionKind.{RegionKind}
-use Rattle.umapsh.specs.declared.refusal.RegionRefusal.{RegionRefusal}
+use Rattle.script_run.specs.RegionRules.{region_seen, rule, or_behind, region_refusal}
+use Rattle.script_run.specs.declared.regions.RegionKind.{RegionKind}
+use Rattle.script_run.specs.declared.regions.RegionRefusal.{RegionRefusal}
 
 -- ---- the regions of a workload are those of its `map` lines
 

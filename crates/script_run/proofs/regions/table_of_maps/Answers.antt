@@ -1,10 +1,10 @@
-use Rattle.std.proofs.Common.{◌≡◌, ◌<◌, List, length, map, get_or, refl, sym, ap, ◌∙◌, arith}
-use Rattle.std.proofs.lemmas.List.{get_or-map, length-map}
+use Rattle.std.proofs.Common.{◌≡◌, ◌<◌, List, [], None, length, map, take, drop, get_or, refl, sym, ap, ◌∙◌, arith}
+use Rattle.std.proofs.lemmas.List.{get_or-map, length-map, drop_all}
 use Rattle.region_table.specs.Regions.{RegionSeen, seen_of}
-use Rattle.umapsh.specs.Regions.{region_seen}
-use Rattle.umapsh.proofs.RegionRules.{rule_is, table_more, turn_kept, turn_broken}
-use Rattle.umapsh.proofs.regions.table_of_maps.Goals as goal
-use Rattle.umapsh.proofs.regions.table_of_maps.Goals.{in-Some, in-None}
+use Rattle.script_run.specs.RegionRules.{region_seen, region_refusal}
+use Rattle.script_run.proofs.RegionRules.{rule_is, table_more, turn_kept, turn_broken, whole_pages}
+use Rattle.script_run.proofs.regions.table_of_maps.Goals as goal
+use Rattle.script_run.proofs.regions.table_of_maps.Goals.{in-Some, in-None}
 
 pub returns-in-Err-clause-refused : goal.returns-in-Err-clause-refused
 returns-in-Err-clause-refused c =
@@ -36,3 +36,11 @@ loop-i-preserved c =
       table = table_more c.args.page_size rs c.args.lines.now i (get_or c.args.lines.now i 0) r c.loop-i.table there here inside refl c.loop-i.invariant.table c.add.new.self c.in-Ok.ensures.added;
       rest = c.loop-i.invariant.rest ∙ turn_kept c.args.page_size rs c.args.lines.now i (get_or c.args.lines.now i 0) r c.loop-i.table there here inside refl c.loop-i.invariant.table c.in-Ok.ensures.accepted;
     }
+
+pub returns-clause-whole : goal.returns-clause-whole
+returns-clause-whole c =
+    let rs : List RegionSeen = map region_seen c.args.maps.now in
+    let i = c.loop-i.i in
+    let none : region_refusal c.args.page_size [] rs c.args.lines.now ≡ None =
+    c.loop-i.invariant.rest ∙ ap (λ (xs : List RegionSeen). region_refusal c.args.page_size (take i rs) xs (drop i c.args.lines.now)) (drop_all i rs (omega (arith, length-map c.args.maps.now region_seen, c.loop-i-test.false))) in
+    whole_pages c.args.page_size [] c.args.maps.now c.args.lines.now (omega (arith, c.requires.as_many)) none

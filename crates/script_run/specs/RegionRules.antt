@@ -6,11 +6,11 @@ use Rattle.region_table.specs.declared.spec.RegionFault.{RegionFault}
 use Rattle.region_table.specs.declared.spec.RegionFault.TheVariants as fault
 use Rattle.workload_text.specs.View.{backing_of}
 use Rattle.workload_text.specs.declared.workload.MapLine.{MapLine}
-use Rattle.umapsh.specs.declared.refusal.RegionKind.{RegionKind}
-use Rattle.umapsh.specs.declared.refusal.RegionKind.TheVariants as kind
-use Rattle.umapsh.specs.declared.refusal.RegionRefusal.{RegionRefusal}
-use Rattle.umapsh.specs.declared.refusal.TableFault.{TableFault}
-use Rattle.umapsh.specs.declared.refusal.TableFault.TheVariants.{Refused, OutOfMemory}
+use Rattle.script_run.specs.declared.regions.RegionKind.{RegionKind}
+use Rattle.script_run.specs.declared.regions.RegionKind.TheVariants as kind
+use Rattle.script_run.specs.declared.regions.RegionRefusal.{RegionRefusal}
+use Rattle.script_run.specs.declared.regions.TableFault.{TableFault}
+use Rattle.script_run.specs.declared.regions.TableFault.TheVariants.{Refused, OutOfMemory}
 
 -- a region of a workload, as the table of regions sees it
 abbrev pub region_seen : MapLine → RegionSeen
