@@ -9,10 +9,6 @@ use Rattle.store_trait.specs.Memory.{page_of}
 pub take_of_page : (size p place n : ℕ) (xs : List ℕ) → place + n ≤ size → p * size + (place + n) ≤ length xs → take n (drop place (page_of size xs p)) ≡ take n (drop (p * size + place) xs)
 take_of_page size p place n xs fits inside = same_lists _ _ (search (rules, places)) (λ k d h. grind (arith, places))
 
--- a piece written into a page, and the page written back
-pub spliced_page : (size p place : ℕ) (xs new : List ℕ) → place + length new ≤ size → p * size + size ≤ length xs → spliced xs (p * size) (spliced (page_of size xs p) place new) ≡ spliced xs (p * size + place) new
-spliced_page size p place xs new fits inside = same_lists _ _ (search (rules, places)) (λ k d h. grind (arith, places))
-
 -- what a write to a part of a page leaves
 pub put_of_mid : (xs ys zs : List ℕ) (a k : ℕ) → ys ≡ zs → k ≡ length zs → put_mid a k xs ys ≡ spliced xs a zs
 put_of_mid xs ys zs a k same len =

@@ -4,10 +4,9 @@ use Rattle.std.specs.List.{flat_map}
 use Rattle.std.proofs.lemmas.List.{drop_more}
 use Rattle.workload_text.specs.Line.{Line}
 use Rattle.workload_text.specs.Grammar.{Region}
-use Rattle.workload_text.specs.View.{region, region_line, command_line}
-use Rattle.workload_text.specs.declared.workload.Command.{Command}
+use Rattle.workload_text.specs.View.{region, region_line}
 use Rattle.workload_text.specs.declared.workload.MapLine.{MapLine}
-use Rattle.script_run.specs.Rooms.{longest_name, room, rooms}
+use Rattle.script_run.specs.Rooms.{longest_name, rooms}
 use Rattle.script_run.proofs.RanLines.{rooms-append}
 
 -- the names of the regions from one on
@@ -26,6 +25,3 @@ module _ (gs : List Region) where
   next_room {X} f items i x below is =
       ap (λ (xs : List X). rooms gs (flat_map f xs)) (drop_more items i x below ∙ ap (λ (y : X). y ∷ drop (i + 1) items) (sym is))
       ∙ rooms-append gs (f x) (flat_map f (drop (i + 1) items))
-
-  pub next_command_room : (items : List Command) (i : ℕ) (x : Command) → i < length items → x ≡ get_or items i x → rooms gs (map command_line (drop i items)) ≡ room gs (command_line x) + rooms gs (map command_line (drop (i + 1) items))
-  next_command_room items i x below is = ap (λ (xs : List Command). rooms gs (map command_line xs)) (drop_more items i x below ∙ ap (λ (y : Command). y ∷ drop (i + 1) items) (sym is))

@@ -3,7 +3,6 @@
 //! Each line may be answered by a fault, so each has room for one beside the longest name.
 ghost use Rattle.std.specs.Prelude.{◌≡◌, map, IfSome};
 ghost use Rattle.workload_text.specs.View.{lines_of, script_lines, command_line, region};
-ghost use Rattle.workload_text.specs.Grammar.{Region};
 ghost use Rattle.workload_text.specs.Accepted.{regions_of};
 ghost use Rattle.script_run.specs.Rooms.{longest_name, fault_room, room, rooms};
 

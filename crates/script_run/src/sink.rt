@@ -2,7 +2,7 @@
 //!
 //! A sink may fail at any write, and then says so by its count of faults. What it took before it failed is a front part
 //! of what was given.
-ghost use Rattle.std.specs.Prelude.{◌≡◌, ◌<◌, ◌≤◌, ◌++◌, ℕ, List, length, Option, Some, OnOk, OnErr, take};
+ghost use Rattle.std.specs.Prelude.{◌≡◌, ◌<◌, ◌≤◌, ℕ, List, length, Option, Some, OnOk, OnErr, take};
 ghost use Rattle.std.specs.Io.KnownBytes.{Appends};
 ghost use Rattle.store_trait.specs.Causes.{HasCause};
 ghost use Rattle.script_run.specs.Streams.{AppendsFront};

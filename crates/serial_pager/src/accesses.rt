@@ -1,5 +1,5 @@
 //! Loads and stores of a part of one page, with the page faults that they make.
-ghost use Rattle.std.specs.Prelude.{◌≡◌, ℕ, ◌+◌, ◌≤◌, ◌^◌, ◌<◌, [], ◌∷◌, true, false, length, slice_range, OnOk, OnErr, IfErr, IfSome, option_map};
+ghost use Rattle.std.specs.Prelude.{◌≡◌, ◌+◌, ◌≤◌, ◌^◌, ◌<◌, [], ◌∷◌, true, false, length, slice_range, OnOk, OnErr, IfErr, IfSome, option_map};
 ghost use Rattle.page_base.specs.declared.keys.Key.{Key};
 ghost use Rattle.page_base.specs.ListSeen.{spliced};
 ghost use Rattle.page_model.specs.declared.entry.Entry.TheVariants as entry;

@@ -3,7 +3,6 @@
 //! What must stay true when this file is changed: stripe s of the list was made as stripe s of the layout, with the shapes of
 //! all regions; and each piece makes at most 2^16 entries, so that no stripe comes to 2^62 of them (`specs/Sound.antt`).
 ghost use Rattle.std.specs.Prelude.{◌≡◌, ◌≤◌, ◌+◌, ℕ, true, [], ◌++◌, length, map, reverse, slice_get, Some, vec_len, vec_capacity, IfOk, IfErr};
-ghost use Rattle.page_base.specs.Lanes.{LaneSeen};
 ghost use Rattle.page_base.specs.declared.keys.Key.{Key};
 ghost use Rattle.page_model.specs.Setups.{told_by};
 ghost use Rattle.serial_pager.specs.Pagers.{rows_by, rows_of, CanOpen, IsOpened, AreRowsOf, has_page, stripe_at, kept};

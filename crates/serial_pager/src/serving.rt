@@ -1,5 +1,5 @@
 //! The services of a stripe, one for each kind of what may be next. Each makes its entries and leaves every lane home.
-ghost use Rattle.std.specs.Prelude.{◌≡◌, ℕ, ◌+◌, ◌≤◌, ◌<◌, ◌^◌, ◌⊎◌, Bool, List, [], ◌∷◌, true, false, length, OnOk, IfErr};
+ghost use Rattle.std.specs.Prelude.{◌≡◌, ℕ, ◌+◌, ◌≤◌, ◌<◌, ◌^◌, ◌⊎◌, Bool, List, [], ◌∷◌, true, length, OnOk, IfErr};
 ghost use Rattle.page_base.specs.declared.keys.Key.{Key};
 ghost use Rattle.page_base.specs.declared.keys.Why.{Why};
 ghost use Rattle.page_model.specs.declared.entry.Entry.TheVariants as entry;

@@ -7,7 +7,7 @@ ghost use Rattle.histories.specs.Histories.{History};
 ghost use Rattle.page_base.specs.declared.keys.Key.{Key};
 ghost use Rattle.page_model.specs.declared.entry.Entry.{Entry};
 ghost use Rattle.page_model.specs.Readers.{IsHere};
-ghost use Rattle.page_model.specs.Setups.{regions, has_page, base_of, first_count};
+ghost use Rattle.page_model.specs.Setups.{regions, base_of, first_count};
 ghost use Rattle.page_model.specs.Stands.{StandsFor, HomeLane};
 ghost use Rattle.serial_pager.specs.Holdings.{held, owes, count_at};
 ghost use Rattle.serial_pager.specs.Rests.{IsAtRest, IsFresh};
