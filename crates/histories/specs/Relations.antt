@@ -1,6 +1,6 @@
 -- The laws of histories, as statements.
 use Rattle.std.specs.Prelude.{ℕ, ◌≤◌, List, [], ◌∷◌, ◌++◌, length, ◌≡◌}
-use Rattle.histories.specs.Histories.{History, calls_of, by, GoesOn, Others}
+use Rattle.histories.specs.Histories.{History, calls_of, by, first, GoesOn, Others}
 
 module _ (E : Type 0) where
   -- the calls of two stretches of a history are those of the one before those of the other
@@ -22,6 +22,10 @@ module _ (E : Type 0) where
   -- of two histories that go on to one, the shorter goes on to the longer
   abbrev pub ShorterGoesOn : Type 0
   ShorterGoesOn = (f g h : History E) → GoesOn f h → GoesOn g h → length f ≤ length g → GoesOn f g
+
+  -- a history that went on to another is that one's prefix of its length
+  abbrev pub FirstIsPrefix : Type 0
+  FirstIsPrefix = (g h : History E) → GoesOn g h → first (length g) h ≡ g
 
   -- where an owner's calls are the same before and after, others alone made entries in between
   abbrev pub SameCallsAreOthers : Type 0

@@ -1,6 +1,6 @@
 //! Laws of histories over any type of entries. Each function does nothing: its contract is the law, and a caller calls it
 //! where its proof needs the law.
-ghost use Rattle.histories.specs.Relations.{CallsOfBoth, CallsOfOne, GoesOnIsOrder, ShorterGoesOn, SameCallsAreOthers, OthersKeepCalls};
+ghost use Rattle.histories.specs.Relations.{CallsOfBoth, CallsOfOne, GoesOnIsOrder, ShorterGoesOn, FirstIsPrefix, SameCallsAreOthers, OthersKeepCalls};
 
 /// The calls of two stretches are those of the later before those of the earlier.
 pub fn calls_of_both<E>()
@@ -20,6 +20,11 @@ pub fn goes_on_is_order<E>()
 /// Two histories that go on to one are a shorter and a longer part of it.
 pub fn shorter_goes_on<E>()
     ensures { ShorterGoesOn E }
+{}
+
+/// A history that went on to another is that one's prefix of its length.
+pub fn first_is_prefix<E>()
+    ensures { FirstIsPrefix E }
 {}
 
 /// An owner whose calls stayed the same made no entry in between.

@@ -1,9 +1,10 @@
 -- The start of what is in flight.
-use Rattle.std.proofs.Common.{Bool, Some, [], ap, append_assoc, arith, drop, false, inl, inr, length, length-append, refl, subst, sym, true, ℕ, ◌&&◌, ◌++◌, ◌+◌, ◌-◌, ◌==◌, ◌∙◌, ◌∷◌, ◌≡◌}
+use Rattle.std.proofs.Common.{Bool, Some, [], ap, append_assoc, false, inl, inr, length, refl, subst, sym, true, ℕ, ◌&&◌, ◌++◌, ◌==◌, ◌∙◌, ◌∷◌, ◌≡◌}
 use Rattle.std.proofs.lemmas.Bool.{eqb-true, or_from}
 use Rattle.std.specs.Bool.{OnTrue}
 use Rattle.std.specs.List.{list_any}
 use Rattle.histories.specs.Histories.{History, first}
+use Rattle.histories.proofs.Tails.{first_prefix}
 use Rattle.page_base.specs.declared.keys.Key.{Key}
 use Rattle.page_model.specs.declared.entry.Entry.{Entry}
 use Rattle.page_model.specs.declared.entry.Entry.TheVariants.{Filled, ReadFailed, StartRead, StartWrite, WriteFailed, Written}
@@ -47,21 +48,11 @@ in_flight_there ((o, WriteFailed k n) ∷ h) r t e = let q = when_end (k.region 
 in_flight_there ((o, Written k at bytes) ∷ h) r t e = let q = when_end (k.region == r) (in_flight h r) t e in more h r t (o, Written k at bytes) q.0 (in_flight_there h r t q.1)
 in_flight_there (x ∷ h) r t e = more h r t x refl (in_flight_there h r t e)
 
--- what lies behind a part of a history is that part, by its length
-pub first_behind : (later g h : History Entry) → h ≡ later ++ g → first (length g) h ≡ g
-first_behind later g h is =
-    let n : length h - length g ≡ length later = let l : length h ≡ length later + length g = ap (λ (x : History Entry). length x) is ∙ length-append later g in omega arith in
-    ap (λ m. drop m h) n ∙ (ap (λ (x : History Entry). drop (length later) x) is ∙ drop_whole later g)
-  where
-    drop_whole : (xs ys : History Entry) → drop (length xs) (xs ++ ys) ≡ ys
-    drop_whole [] ys = refl
-    drop_whole (x ∷ xs) ys = drop_whole xs ys
-
 -- the history before the start is the prefix that is as long as its place says
 before_first : (h : History Entry) (r : ℕ) (t : InFlight) → in_flight h r ≡ Some t → first (length t.before) h ≡ t.before
 before_first h r t e =
     let s = in_flight_there h r t e in
-    first_behind (s.later ++ (t.owner, s.start) ∷ []) t.before h (s.is ∙ sym (append_assoc s.later ((t.owner, s.start) ∷ []) t.before))
+    first_prefix t.before h (s.later ++ (t.owner, s.start) ∷ [], s.is ∙ sym (append_assoc s.later ((t.owner, s.start) ∷ []) t.before))
 
 pub writes_taken : WritesAreTaken
 writes_taken s later g o at k bytes l =
