@@ -344,7 +344,7 @@ fn the_text_is_the_same_under_all_settings(rt: HostRuntime) {
     }
 }
 
-/// A journal that keeps of each entry what it is and of which page, for the stripe of the first owner alone.
+/// A journal that keeps of each entry what it is and of which page. An entry of another owner than 0 has no page.
 #[derive(Drop)]
 struct Told {
     entries: Vec<(&'static str, u32)>,
