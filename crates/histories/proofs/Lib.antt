@@ -1,2 +1,4 @@
 pub mod Calls
 pub mod Tails
+pub mod Growing
+pub mod Aloneness
