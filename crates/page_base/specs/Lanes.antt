@@ -1,11 +1,12 @@
 -- What is seen of a lane: a stripe's share of one region's store.
 -- All of it is plain data, so that the paging model, the core and its callers speak of lanes without the trait that reads and writes them.
 use Rattle.std.specs.Prelude.{ℕ, ◌+◌, ◌-◌, ◌^◌, ◌≤◌, min, Bool, ◌&&◌, ◌==◌, nat_lt, List, slice_index_or, Option, None}
+use Rattle.page_base.specs.Backings.{Backing}
 use Rattle.page_base.specs.Pages.{stripe_of}
 
 -- which lane of which store it is; no call changes it, and it determines the lane's pages
 pub record Origin : Type 0 where
-  pub path : List ℕ  -- of the file or folder that the region lies in, empty for memory
+  pub backing : Backing  -- where the region lies
   pub region : ℕ
   pub pages : ℕ  -- of the whole region
   pub page_size : ℕ

@@ -1,5 +1,5 @@
 -- Which page sizes, stripes and frames go together.
-use Rattle.std.specs.Prelude.{ℕ, ◌*◌, Bool, ◌&&◌, ◌||◌, ◌==◌, not, nat_lt, nat_le, if◌then◌else◌, Option, Some, None}
+use Rattle.std.specs.Prelude.{ℕ, ◌≡◌, ◌*◌, Bool, ◌&&◌, ◌||◌, ◌==◌, not, nat_lt, nat_le, if◌then◌else◌, Option, Some, None, Result, MatchResult}
 use Rattle.std.specs.Int.{is_power_of_two}
 use Rattle.page_base.specs.declared.faults.LayoutFault.{LayoutFault}
 use Rattle.page_base.specs.declared.faults.LayoutFault.TheVariants.{BadPageSize, NoFrames, TooManyFrames, NoStripes, TooManyStripes}
@@ -16,3 +16,7 @@ layout_fault page_size stripes frames =
     (if nat_lt 1048576 frames || nat_lt 1073741824 (frames * page_size) then Some TooManyFrames else
     (if stripes == 0 then Some NoStripes else
     (if nat_lt 64 stripes || nat_lt frames stripes then Some TooManyStripes else None))))
+
+-- an error is the first rule that is broken, and there is none where none is
+abbrev pub IsRefusedBy : {T : Type 0} → Option LayoutFault → Result T LayoutFault → Type 0
+IsRefusedBy fault result = MatchResult result (λ made. fault ≡ None) (λ f. fault ≡ Some f)

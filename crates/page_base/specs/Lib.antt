@@ -1,5 +1,6 @@
 pub mod Backings
 pub mod Lanes
+pub mod Laws
 pub mod Layouts
 pub mod ListSeen
 pub mod Pages

@@ -1,10 +1,17 @@
 //! Why a call of this crate is refused.
+use std::alloc::AllocError;
 use thiserror::Error;
 
 /// Memory could not be had. The call that answers it has changed nothing.
 #[derive(Clone, Copy, Debug, PartialEq, Eq, Error)]
 #[error("out of memory")]
 pub struct OutOfMemory;
+
+impl From<AllocError> for OutOfMemory {
+    fn from(_: AllocError) -> OutOfMemory {
+        OutOfMemory
+    }
+}
 
 /// Why three numbers are no layout: the first rule that is broken.
 #[derive(Clone, Copy, Debug, PartialEq, Eq, Error)]

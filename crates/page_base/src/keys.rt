@@ -7,6 +7,14 @@ pub struct Key {
     pub page: u32,
 }
 
+/// `len` bytes from `place` on in one page.
+#[derive(Clone, Copy, Debug, PartialEq, Eq)]
+pub struct Piece {
+    pub key: Key,
+    pub place: u32,
+    pub len: u32,
+}
+
 /// The shape of a region: its pages, how many of them lie together in one file, and whether it may be stored to.
 #[derive(Clone, Copy, Debug, PartialEq, Eq)]
 pub struct RegionShape {

@@ -1,7 +1,7 @@
 //! The layout of a buffer: one page size, and frames that are shared out over stripes.
-ghost use Rattle.std.specs.Prelude.{◌≡◌, ◌<◌, ◌≤◌, ◌*◌, true, MatchResult, IfOk, Some, None};
+ghost use Rattle.std.specs.Prelude.{◌≡◌, ◌<◌, ◌≤◌, ◌*◌, true, IfOk};
 ghost use Rattle.page_base.specs.Pages.{stripe_of, quota_of};
-ghost use Rattle.page_base.specs.Layouts.{is_page_size, layout_fault};
+ghost use Rattle.page_base.specs.Layouts.{is_page_size, layout_fault, IsRefusedBy};
 
 use crate::faults::LayoutFault;
 use crate::keys::Key;
@@ -38,7 +38,7 @@ impl Layout {
         ensures page_size { IfOk result (λ l. l.page_size ≡ page_size) }
         ensures stripes { IfOk result (λ l. l.stripes ≡ stripes) }
         ensures frames { IfOk result (λ l. l.frames ≡ frames) }
-        ensures refused { MatchResult result (λ l. layout_fault page_size stripes frames ≡ None) (λ f. layout_fault page_size stripes frames ≡ Some f) }
+        ensures refused { IsRefusedBy (layout_fault page_size stripes frames) result }
     {
         let in_range = page_size >= LEAST_PAGE_SIZE && page_size <= MOST_PAGE_SIZE;
         if !page_size.is_power_of_two() || !in_range {

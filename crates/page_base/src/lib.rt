@@ -3,12 +3,14 @@
 //!
 //! It stands on std alone. It promises exact numbers: which stripe a page belongs to, how many frames a stripe has, at
 //! which marks it evicts, and which page sizes, stripes and frames go together. A list promises that what was reserved
-//! goes in later without taking memory. `specs/Lanes.antt` has the data by which all crates speak of a lane.
+//! goes in later without taking memory. `specs/Lanes.antt` has the data by which all crates speak of a lane. The laws of
+//! keys and of lists that several crates need stand in `laws`.
 #![tactic(auto)]
 
 mod bytes;
 mod faults;
 mod keys;
+pub mod laws;
 mod layout;
 mod list;
 #[cfg(test)]
@@ -18,7 +20,7 @@ mod watermarks;
 
 pub use bytes::Bytes;
 pub use faults::{LayoutFault, OutOfMemory};
-pub use keys::{Key, Marks, Raise, RegionShape, Why};
+pub use keys::{Key, Marks, Piece, Raise, RegionShape, Why};
 pub use layout::Layout;
 pub use list::List;
 pub use texts::Texts;

@@ -3,6 +3,9 @@
 //! Contracts see `items` and `spare`. The vector may have more capacity than `spare` says, and never less: `room` counts
 //! what was reserved and not yet used, so `put` takes no memory.
 ghost use Rattle.std.specs.Prelude.{◌≡◌, ◌<◌, ◌≤◌, ◌+◌, [], ◌∷◌, ◌++◌, length, slice_get, Some, IsOk, OnOk, OnErr};
+ghost use Rattle.std.specs.Borrow.{Lends, sem};
+ghost use Rattle.page_base.specs.contracts.list.List.{the_row};
+ghost use Rattle.page_base.specs.ListSeen.{with_item};
 
 use crate::faults::OutOfMemory;
 use std::alloc::Global;
@@ -88,6 +91,15 @@ impl<T> List<T> {
         self.kept.as_slice()
     }
 
+    /// The item at `i`, counted from 0, to be written over.
+    pub fn get_mut(&mut self, i: usize) -> &mut T
+        requires { i < length self.old.items }
+        ensures* writes_back { sem 𝓛 (Lends (the_row T.row) T.row self.entry result (with_item self.old i)) }
+        ensures value { slice_get self.old.items i ≡ Some result.now }
+    {
+        &mut self.kept[i]
+    }
+
     /// Makes room for at least `more` items beside those that are there.
     pub fn reserve(&mut self, more: usize) -> Result<(), OutOfMemory>
         ensures items { self.new.items ≡ self.old.items }
@@ -113,5 +125,20 @@ impl<T> List<T> {
     {
         self.kept.push_reserved(item);
         self.room -= 1;
+    }
+}
+
+impl<T: Drop> List<T> {
+    /// Appends an item. Where no room is left, it takes room for as many items again as there are, and for 4 at least.
+    pub fn push(&mut self, item: T) -> Result<(), OutOfMemory>
+        ensures ok { OnOk result (self.new.items ≡ self.old.items ++ item ∷ []) }
+        ensures err { OnErr result (self.new ≡ self.old) }
+        ensures enough { 1 ≤ self.old.spare → IsOk result }
+    {
+        if self.spare() == 0 {
+            self.reserve(self.len().max(4))?;
+        }
+        self.put(item);
+        Ok(())
     }
 }

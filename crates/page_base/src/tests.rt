@@ -72,10 +72,20 @@ fn what_is_reserved_goes_in(rt: HostRuntime) -> Result<(), OutOfMemory> {
 
     let mut texts = Texts::new(rt.alloc());
     texts.reserve(1)?;
-    let Ok(word) = String::from_str(rt.alloc(), "serial") else {
-        return Err(OutOfMemory);
-    };
-    texts.put(word);
+    texts.put(String::from_str(rt.alloc(), "serial")?);
     assert_eq!(rt; texts.get(0).as_str(), "serial");
+    assert_eq!(rt; texts.as_slice().len(), 1);
+    Ok(())
+}
+
+#[test]
+fn a_list_grows_by_pushes_and_its_items_are_written_over(
+    rt: HostRuntime,
+) -> Result<(), OutOfMemory> {
+    let mut numbers = List::new(rt.alloc());
+    numbers.push(1u64)?;
+    numbers.push(2)?;
+    *numbers.get_mut(1) = 20;
+    assert_eq!(rt; numbers.as_slice(), [1, 20].as_slice());
     Ok(())
 }

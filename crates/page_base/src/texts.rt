@@ -1,5 +1,5 @@
 //! Texts whose room is known: a `List` of strings, each seen as its bytes.
-ghost use Rattle.std.specs.Prelude.{◌≡◌, ◌<◌, ◌≤◌, ◌+◌, [], ◌∷◌, ◌++◌, length, slice_get, Some, IsOk, OnOk, OnErr, string_bytes};
+ghost use Rattle.std.specs.Prelude.{◌≡◌, ◌<◌, ◌≤◌, ◌+◌, [], ◌∷◌, ◌++◌, length, slice_get, Some, IsOk, OnOk, OnErr, map, string_bytes};
 
 use crate::faults::OutOfMemory;
 use std::alloc::Global;
@@ -55,6 +55,13 @@ impl Texts {
         ensures { slice_get self.now.items i ≡ Some (string_bytes result.now) }
     {
         &self.kept[i]
+    }
+
+    /// The texts in order.
+    pub fn as_slice(&self) -> &[String]
+        ensures { map string_bytes result.now ≡ self.now.items }
+    {
+        self.kept.as_slice()
     }
 
     /// Makes room for at least `more` texts beside those that are there.
