@@ -17,7 +17,7 @@ use Rattle.page_model.specs.Evictions.{can_leave, has_pressure, is_evicting, vic
 use Rattle.page_model.specs.Faults.{is_pending, is_protected_why, is_waiting, pending}
 use Rattle.page_model.specs.InFlight.{in_flight, is_a_read, is_home, is_read_of, is_reading, is_write_of, is_writing}
 use Rattle.page_model.specs.Memory.{flat}
-use Rattle.page_model.specs.Readers.{ReadersAgree, picked}
+use Rattle.page_model.specs.Readers.{IsAsSaid, ReadersAgree, picked}
 use Rattle.page_model.specs.Residents.{free_frames, is_in, is_resident, oldest_of, reads_out, residents}
 use Rattle.page_model.specs.Serving.{chosen, first_answer, hint_answer, is_servable, is_stale, next_of, waits_for_room}
 use Rattle.page_model.specs.Setups.{Setup, has_page, is_told, quota, regions}
@@ -40,14 +40,7 @@ held_pages h c st = all_unmap (λ (k : Key). has_page c.setup k ≡ true) (λ (r
 pub present_is : (h : History Entry) (c : Core) (k : Key) → StandsFor h c → is_present c k ≡ is_resident h k
 present_is h c k st = some_found (λ (r : Resident). same r.key k) c.pages ∙ (sym (any_map (λ j. same j k) (λ (r : Resident). r.key) c.pages) ∙ ap (is_in k) st.order)
 
--- a page that is found is as the history says
-pub record Seen (s : Setup) (h : History Entry) (k : Key) (r : Resident) : Type 0 where
-  pub key : r.key ≡ k
-  pub protected : r.protected ≡ is_protected h k
-  pub dirty : r.dirty ≡ is_dirty h k
-  pub bytes : OnTrue (is_told s k) (r.bytes ≡ flat s h k)
-
-pub page_seen : (h : History Entry) (c : Core) (k : Key) (r : Resident) → StandsFor h c → page_at c k ≡ Some r → Seen c.setup h k r
+pub page_seen : (h : History Entry) (c : Core) (k : Key) (r : Resident) → StandsFor h c → page_at c k ≡ Some r → IsAsSaid c.setup h k r
 page_seen h c k r st e =
     let is : r.key ≡ k = same-true r.key k (find_passes (λ (x : Resident). same x.key k) c.pages r e) in
     let a = all_found (PageStands c.setup h) (λ (x : Resident). same x.key k) c.pages r e st.pages in

@@ -1,16 +1,22 @@
 -- What a flush needs.
-use Rattle.std.proofs.Common.{[], ap, append_assoc, false, inl, inr, length, nat_lt, not, refl, subst, sym, true, ℕ, ◌&&◌, ◌++◌, ◌||◌, ◌∙◌, ◌∷◌, ◌≡◌, ◌⊎◌}
-use Rattle.std.proofs.lemmas.Bool.{and_from, and_parts, cases_Bool, or_cases, or_left, or_right}
-use Rattle.histories.specs.Histories.{History}
+use Rattle.std.proofs.Common.{List, [], ap, append_assoc, arith, false, inl, inr, length, nat_lt, not, refl, subst, sym, true, ℕ, ◌&&◌, ◌++◌, ◌||◌, ◌∙◌, ◌∷◌, ◌≡◌, ◌≤◌, ◌⊎◌}
+use Rattle.std.proofs.lemmas.Bool.{and_from, and_parts, cases_Bool, lt-ltb, or_cases, or_left, or_right}
+use Rattle.histories.specs.Histories.{History, GoesOn}
 use Rattle.page_base.specs.Pages.{same}
 use Rattle.page_base.specs.declared.keys.Key.{Key}
 use Rattle.page_model.specs.declared.entry.Entry.{Entry}
 use Rattle.page_model.specs.declared.entry.Entry.TheVariants.{Save, Written}
 use Rattle.page_model.specs.Bits.{is_dirty, written_since}
+use Rattle.page_model.specs.Core as core
+use Rattle.page_model.specs.Core.{Core}
 use Rattle.page_model.specs.Flushed.{is_covered, is_page_covered}
 use Rattle.page_model.specs.Laws.{FlushLaws, IsHeld}
 use Rattle.page_model.specs.Legal.{IsLegal}
+use Rattle.page_model.specs.Residents.{is_resident}
 use Rattle.page_model.specs.Setups.{Setup}
+use Rattle.page_model.specs.Stands.{StandsFor}
+use Rattle.page_model.proofs.Agreements.{dirty_is}
+use Rattle.page_model.proofs.Kept.{absent_clean}
 use Rattle.page_model.proofs.Keys.{same-true, same_self}
 use Rattle.page_model.proofs.Saves.{stores_held}
 
@@ -64,9 +70,27 @@ covers_all h ((o, Save j place bytes) ∷ before) c =
     ]) (covers_all h before (λ k. (and_parts (not (same j k) || written_since h k (length before)) (is_page_covered h k before) (c k)).1))
 covers_all h (e ∷ before) c = covers_all h before c
 
+-- what a core shows as not dirty is clean, or isn't resident
+not_dirty : (h seen : History Entry) (c : Core) (k : Key) → GoesOn seen h → StandsFor h c → core.is_dirty c k ≡ false → is_page_covered h k seen ≡ true
+not_dirty h seen c k on st e = clean_covered c.setup on.0 seen h k (sym on.1) st.legal (elim (cases_Bool (is_resident h k)) [
+  | inl t ↦ subst (λ b. (b && is_dirty h k) ≡ false) t (sym (dirty_is h c k st) ∙ e)
+  | inr n ↦ absent_clean c.setup h k st.legal n
+])
+
+written_covered : (h seen : History Entry) (o at : ℕ) (k : Key) (bytes : List ℕ) → length seen ≤ at → is_page_covered ((o, Written k at bytes) ∷ h) k seen ≡ true
+written_covered h [] o at k bytes le = refl
+written_covered h ((p, Save j place b) ∷ before) o at k bytes le =
+    let behind : (same k k && nat_lt (length before) at) ≡ true = and_from (same k k) (nat_lt (length before) at) (same_self k) (lt-ltb (length before) at (omega (arith, le))) in
+    and_from (not (same j k) || written_since ((o, Written k at bytes) ∷ h) k (length before)) (is_page_covered ((o, Written k at bytes) ∷ h) k before)
+    (or_right (not (same j k)) (written_since ((o, Written k at bytes) ∷ h) k (length before)) (or_left (same k k && nat_lt (length before) at) (written_since h k (length before)) behind))
+    (written_covered h before o at k bytes (omega (arith, le)))
+written_covered h (e ∷ before) o at k bytes le = written_covered h before o at k bytes (omega (arith, le))
+
 pub flush_laws : FlushLaws
 flush_laws = record {
   clean_is_covered = λ s h seen k c l d. clean_covered s c.0 seen h k (sym c.1) l d;
   stays_covered = λ g h seen k c w. subst (λ (x : History Entry). is_page_covered x k seen ≡ true) (sym c.1) (covered_stays c.0 g seen k w);
+  not_dirty_is_covered = not_dirty;
+  written_is_covered = written_covered;
   covered_is_flushed = covers_all;
 }

@@ -12,7 +12,7 @@ use Rattle.page_model.specs.declared.entry.Entry.TheVariants.{Evicted, Filled, O
 use Rattle.page_model.specs.Bits.{is_dirty, is_protected, is_some_and, opened_at, written_since}
 use Rattle.page_model.specs.Faults.{is_write, last_why}
 use Rattle.page_model.specs.InFlight.{InFlight, before_start, in_flight, is_reading}
-use Rattle.page_model.specs.Laws.{AbsentIsKept}
+use Rattle.page_model.specs.Laws.{AbsentIsKept, CleanIsKept}
 use Rattle.page_model.specs.Legal.{IsLegal, MayFinishWrite}
 use Rattle.page_model.specs.Memory.{byte, covers, flat, kept}
 use Rattle.page_model.specs.Residents.{is_in, is_resident, residents, without}
@@ -202,3 +202,6 @@ kept_flat s (e ∷ h) k l told size d = kept_flat s h k l.0 told size d
 
 pub absent_kept : AbsentIsKept
 absent_kept s h k fits l page told absent = kept_flat s h k l told (λ b e. fits.page_bytes k b page e) (absent_clean s h k l absent)
+
+pub clean_kept : CleanIsKept
+clean_kept = record { absent = absent_clean; kept = λ s h k fits l page told clean. kept_flat s h k l told (λ b e. fits.page_bytes k b page e) clean }

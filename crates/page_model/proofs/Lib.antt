@@ -27,3 +27,12 @@ pub mod StandsReads
 pub mod StandsWrites
 pub mod Services
 pub mod Starts
+pub mod StripePages
+pub mod Dirty
+pub mod Emptied
+pub mod Counted
+pub mod Picks
+pub mod Ahead
+pub mod Waits
+pub mod Whys
+pub mod ByPiece

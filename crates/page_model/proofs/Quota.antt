@@ -17,9 +17,9 @@ use Rattle.page_model.proofs.Nexts.{read_room}
 use Rattle.page_model.proofs.Prefixes.{page_region}
 use Rattle.page_model.proofs.Serving.{none_reads}
 
-shorter : {A : Type 0} (p : A → Bool) (xs : List A) → length (filter p xs) ≤ length xs
-shorter p [] = omega arith
-shorter {A} p (x ∷ xs) = go (p x) (shorter p xs)
+pub filter_shorter : {A : Type 0} (p : A → Bool) (xs : List A) → length (filter p xs) ≤ length xs
+filter_shorter p [] = omega arith
+filter_shorter {A} p (x ∷ xs) = go (p x) (filter_shorter p xs)
   where
     go : (b : Bool) → length (filter p xs) ≤ length xs → length (cond b (x ∷ filter p xs) (filter p xs)) ≤ suc (length xs)
     go true le = omega arith
@@ -79,5 +79,5 @@ never_over s ((o, WriteFailed k n) ∷ h) l =
     omega (arith, never_over s h l.0)
 never_over s ((o, Evicted k why) ∷ h) l =
     let stay : reads_out s ((o, Evicted k why) ∷ h) ≡ reads_out s h = count_same (reads_in ((o, Evicted k why) ∷ h)) (reads_in h) 0 (regions s) (λ j lt. refl) in
-    omega (arith, never_over s h l.0, shorter (λ j. not (same j k)) (residents h))
+    omega (arith, never_over s h l.0, filter_shorter (λ j. not (same j k)) (residents h))
 never_over s (e ∷ h) l = never_over s h l.0

@@ -13,6 +13,7 @@ use Rattle.page_model.specs.declared.entry.Entry.TheVariants.{Dropped, Evicted, 
 use Rattle.page_model.specs.Closings.{is_closing}
 use Rattle.page_model.specs.Faults.{is_pending, is_protected_why, pending, served}
 use Rattle.page_model.specs.InFlight.{InFlight, in_flight, is_own, is_read_of, is_reading}
+use Rattle.page_model.specs.Laws.{waits_for}
 use Rattle.page_model.specs.Legal.{IsLegal, MayRaiseFor}
 use Rattle.page_model.specs.Residents.{is_in, is_resident, residents, without}
 use Rattle.page_model.specs.Serving.{is_servable, next_of}
@@ -23,10 +24,6 @@ use Rattle.page_model.proofs.Lists.{any_filter, any_grows, any_last, any_none, f
 use Rattle.page_model.proofs.Nexts.{read_served}
 use Rattle.page_model.specs.declared.entry.HintAnswer.TheVariants as answer
 use Rattle.page_model.specs.declared.seen.Next.TheVariants as serve
-
--- a raise of page k waits for a read
-abbrev pub waits_for : Key → Raise → Bool
-waits_for k p = not (is_protected_why p.why) && same p.key k
 
 abbrev pub is_awaited : History Entry → Key → Bool
 is_awaited h k = list_any (waits_for k) (pending h)

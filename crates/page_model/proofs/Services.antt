@@ -1,5 +1,5 @@
 -- What is known where a service or a trip may start, and of a trip that is out.
-use Rattle.std.proofs.Common.{None, Option, Some, arith, false, find, length, option_map, refl, slice_get, subst, sym, true, ℕ, ◌+◌, ◌==◌, ◌∙◌, ◌≡◌, ◌≤◌}
+use Rattle.std.proofs.Common.{Bool, None, Option, Some, arith, false, find, length, option_map, refl, slice_get, subst, sym, true, ℕ, ◌+◌, ◌==◌, ◌∙◌, ◌≡◌, ◌≤◌}
 use Rattle.std.proofs.lemmas.Bool.{and_from, cond-true, eq-eqb}
 use Rattle.std.specs.List.{list_any}
 use Rattle.histories.specs.Histories.{History, first}
@@ -18,9 +18,10 @@ use Rattle.page_model.specs.Residents.{is_resident, reads_out, residents}
 use Rattle.page_model.specs.Serving.{is_servable, is_stale, next_of, waits_for_room}
 use Rattle.page_model.specs.Setups.{Fits, IsLaneOf, Setup, has_page, is_page_of}
 use Rattle.page_model.specs.Stands.{HomeLane, PlaceStands, StandsFor}
-use Rattle.page_model.proofs.Agreements.{guarded_is, held_length, next_is, pending_is, present_is, reads_out_is}
-use Rattle.page_model.proofs.Keys.{same_self}
-use Rattle.page_model.proofs.Lists.{found_any}
+use Rattle.page_model.proofs.Agreements.{guarded_is, held_length, next_is, pending_is, present_is, queue_pages, reads_out_is}
+use Rattle.page_model.proofs.Keys.{same-true, same_self}
+use Rattle.page_model.proofs.Lists.{find_passes, found_any}
+use Rattle.page_model.proofs.Members.{all_found, is_there, some_found}
 use Rattle.page_model.proofs.Nexts.{chosen_drop, open_page_is, open_served}
 use Rattle.page_model.proofs.Quota.{never_over}
 use Rattle.page_model.proofs.StandsPages.{present_page}
@@ -46,6 +47,14 @@ drop_ready h c k st e =
     let is : next_of c.setup h ≡ serve.Drop k = sym (next_is h c st) ∙ e in
     let x = chosen_drop (find (is_stale h) (pending h)) (find (is_servable c.setup h) (pending h)) (list_any (waits_for_room h) (pending h)) k is in
     pending_is h c k st ∙ found_any (is_stale h) (λ (p : Raise). same p.key k) (pending h) x.0 x.1 (rw (x.2) (same_self k))
+
+-- a pending fault is of a page of the stripe
+pending_page : (h : History Entry) (c : Core) (k : Key) → StandsFor h c → core.is_pending c k ≡ true → has_page c.setup k ≡ true
+pending_page h c k st e =
+    let test : Raise → Bool = λ p. same p.key k in
+    let x = is_there (find test c.queue) (some_found test c.queue ∙ e) in
+    let page : has_page c.setup x.0.key ≡ true = all_found (λ (p : Raise). has_page c.setup p.key ≡ true) test c.queue x.0 x.1 (queue_pages h c st) in
+    subst (λ (j : Key). has_page c.setup j ≡ true) (same-true x.0.key k (find_passes test c.queue x.0 x.1)) page
 
 home_at : (place : LanePlace) → is_home_place place ≡ true → (lane : LaneSeen) × (place ≡ Home lane)
 home_at (Home lane) e = (lane, refl)
@@ -83,7 +92,7 @@ within h c st =
     omega (arith, never_over c.setup h st.legal)
 
 pub service_knows : ServiceKnows
-service_knows = record { read = read_ready; open_ = open_ready; drop = drop_ready; present = present_page; here = here_at; like = home_like; lane_has = lane_has; within = within; read_out = read_out; write_out = write_out }
+service_knows = record { read = read_ready; open_ = open_ready; drop = drop_ready; present = present_page; pending = pending_page; here = here_at; like = home_like; lane_has = lane_has; within = within; read_out = read_out; write_out = write_out }
 
 pub starts_open : StartsOpen
 starts_open = record {

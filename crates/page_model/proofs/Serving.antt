@@ -16,7 +16,7 @@ use Rattle.page_model.specs.Closings.{is_closing}
 use Rattle.page_model.specs.Evictions.{can_leave, has_pressure, is_evicting, victim}
 use Rattle.page_model.specs.Faults.{is_protected_why, is_write, last_why, pending, served}
 use Rattle.page_model.specs.InFlight.{InFlight, in_flight, is_a_read, is_home, is_reading, is_write_of, is_writing}
-use Rattle.page_model.specs.Laws.{SomethingIsNext, WaitingIsProtected, asks_open}
+use Rattle.page_model.specs.Laws.{GoesAhead, WaitingIsProtected, asks_open}
 use Rattle.page_model.specs.Legal.{IsLegal, MayRaiseFor}
 use Rattle.page_model.specs.Residents.{free_frames, is_resident, reads_out, residents}
 use Rattle.page_model.specs.Serving.{chosen, is_servable, is_stale, waits_for_room}
@@ -34,7 +34,7 @@ protected_by s h k Ahead f e = absurd cc
 protected_by s h k Write f e = absurd cc
 protected_by s h k Protected f e = f.1
 
-still_asks : (j k : Key) (ps : List Raise) → list_any (asks_open k) (served j ps) ≡ true → list_any (asks_open k) ps ≡ true
+pub still_asks : (j k : Key) (ps : List Raise) → list_any (asks_open k) (served j ps) ≡ true → list_any (asks_open k) ps ≡ true
 still_asks j k ps e = any_grows (λ p. not (same p.key j) && asks_open k p) (asks_open k) ps (λ p f. (and_parts (not (same p.key j)) (asks_open k p) f).1) (any_filter (λ p. not (same p.key j)) (asks_open k) ps e)
 
 asks_pending : (k : Key) (ps : List Raise) → list_any (asks_open k) ps ≡ true → list_any (λ p. same p.key k) ps ≡ true
@@ -134,7 +134,7 @@ goes_on s h (p ∷ ps) fits l home is lt None None ea eb =
       λ e. (or_right (is_evicting s h) (free_frames s h == 0) (eq-eqb (free_frames s h) 0 want.1), pick_there h (residents h) home some_page),
     )
 
-pub something_is_next : SomethingIsNext
+pub something_is_next : (s : Setup) (h : History Entry) → Fits s → IsLegal s h → ((r : ℕ) → is_home h r ≡ true) → 0 < length (pending h) → GoesAhead s h
 something_is_next s h fits l home some =
     let r = goes_on s h (pending h) fits l home refl some (find (is_stale h) (pending h)) (find (is_servable s h) (pending h)) refl refl in
     record { something = r.0; room = r.1 }

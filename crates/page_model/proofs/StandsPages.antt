@@ -1,10 +1,10 @@
 -- The events that change a page and no lane: a store, an opening, an eviction.
-use Rattle.std.proofs.Common.{Bool, List, None, Option, Some, ap, arith, cond, false, length, map, nat_lt, not, option_map, refl, subst, sym, true, ℕ, ◌&&◌, ◌+◌, ◌<◌, ◌∙◌, ◌∷◌, ◌≡◌, ◌≤◌}
+use Rattle.std.proofs.Common.{Bool, List, None, Option, Some, ap, arith, cond, false, length, map, not, option_map, refl, subst, sym, true, ℕ, ◌&&◌, ◌+◌, ◌<◌, ◌∙◌, ◌∷◌, ◌≡◌, ◌≤◌}
 use Rattle.std.proofs.lemmas.Bool.{OnTrue_at, OnTrue_from, and_left, le-leb, lt-ltb}
 use Rattle.std.proofs.lemmas.List.{length-map}
 use Rattle.histories.specs.Histories.{History}
 use Rattle.page_base.specs.ListSeen.{spliced}
-use Rattle.page_base.specs.Pages.{off_mark, same}
+use Rattle.page_base.specs.Pages.{same}
 use Rattle.page_base.specs.declared.keys.Key.{Key}
 use Rattle.page_model.specs.declared.entry.Cause.{Cause}
 use Rattle.page_model.specs.declared.entry.Cause.TheVariants.{Flush, Pressure, Unmap}
@@ -21,7 +21,7 @@ use Rattle.page_model.specs.Memory.{flat}
 use Rattle.page_model.specs.Readers.{picked}
 use Rattle.page_model.specs.Residents.{is_resident, residents, without}
 use Rattle.page_model.specs.Serving.{next_of}
-use Rattle.page_model.specs.Setups.{Setup, has_page, is_told, quota, regions}
+use Rattle.page_model.specs.Setups.{Setup, has_page, is_told, regions}
 use Rattle.page_model.specs.Stands.{PageStands, StandsFor}
 use Rattle.page_model.specs.Steps.{without_page}
 use Rattle.page_model.specs.Tallies.{counted}
@@ -173,7 +173,7 @@ evict_stands h o c k why st can =
       queue = st.queue;
       count = st.count;
       regions = λ r g f. region_same c.setup h ((o, Evicted k why) ∷ h) r g (unmoved c.setup h o (Evicted k why) r refl) (st.regions r g f);
-      evicting = ap (λ n. nat_lt (off_mark (quota c.setup) c.setup.low) n && c.evicting) left ∙ ap (λ b. nat_lt (off_mark (quota c.setup) c.setup.low) (length (without k (residents h))) && b) st.evicting;
+      evicting = rw (left, st.evicting) refl;
       counts = ap (counted (Evicted k why)) st.counts;
       events = omega (arith, st.events);
     }

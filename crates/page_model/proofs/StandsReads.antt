@@ -1,12 +1,12 @@
 -- The events of a read: its start, its fill, its failure.
-use Rattle.std.proofs.Common.{Bool, List, None, Option, Some, [], ap, arith, cond, false, find, inl, inr, is_some, length, max, min, nat_le, nat_lt, not, refl, slice_get, slice_index, slice_set, subst, sym, true, ℕ, ◌&&◌, ◌++◌, ◌+◌, ◌-◌, ◌<◌, ◌==◌, ◌^◌, ◌||◌, ◌∙◌, ◌∷◌, ◌≡◌, ◌≤◌}
+use Rattle.std.proofs.Common.{Bool, List, None, Option, Some, [], ap, arith, cond, false, find, inl, inr, is_some, length, max, min, nat_lt, not, refl, slice_get, slice_index, slice_set, subst, sym, true, ℕ, ◌&&◌, ◌++◌, ◌+◌, ◌-◌, ◌<◌, ◌==◌, ◌^◌, ◌||◌, ◌∙◌, ◌∷◌, ◌≡◌, ◌≤◌}
 use Rattle.std.proofs.lemmas.Bool.{OnTrue_from, and_from, and_left, and_parts, cases_eq, cases_lt, cond-false, cond-true, eq-eqb, false_from_ne_true, lt-ltb, ltb-true, ne_eqb, or_left, or_right}
 use Rattle.std.proofs.lemmas.List.{get_or-set_other, get_or-set_same, map-append}
 use Rattle.std.specs.Bool.{OnTrue, beq}
 use Rattle.std.specs.List.{AllByRecursion}
 use Rattle.histories.specs.Histories.{History}
 use Rattle.page_base.specs.Lanes.{LaneSeen, told_at}
-use Rattle.page_base.specs.Pages.{on_mark, same, stripe_of}
+use Rattle.page_base.specs.Pages.{same, stripe_of}
 use Rattle.page_base.specs.declared.keys.Key.{Key}
 use Rattle.page_base.specs.declared.keys.Raise.{Raise}
 use Rattle.page_base.specs.declared.keys.RegionShape.{RegionShape}
@@ -21,9 +21,9 @@ use Rattle.page_model.specs.InFlight.{InFlight, MayEnd, in_flight, is_own, is_re
 use Rattle.page_model.specs.Legal.{IsLegal}
 use Rattle.page_model.specs.Memory.{flat, kept}
 use Rattle.page_model.specs.Readers.{IsReadOut, ReadyToRead}
-use Rattle.page_model.specs.Residents.{is_resident, residents}
+use Rattle.page_model.specs.Residents.{is_resident}
 use Rattle.page_model.specs.Serving.{is_servable, next_of}
-use Rattle.page_model.specs.Setups.{Setup, has_page, is_page_of, is_told, pages_of, quota}
+use Rattle.page_model.specs.Setups.{Setup, has_page, is_page_of, is_told, pages_of}
 use Rattle.page_model.specs.Stands.{HomeLane, PageStands, PlaceStands, StandsFor, page_of}
 use Rattle.page_model.specs.Steps.{filled_page, placed, read_missed}
 use Rattle.page_model.specs.StoreFaults.{last_fault, read_fault}
@@ -217,7 +217,7 @@ filled_stands h o c t bytes lane st is_open lane_same holds =
             read_faults = was.read_faults;
             sized = was.sized;
           });
-      evicting = ap (λ n. nat_le (on_mark (quota c.setup) c.setup.high) (n + 1) || c.evicting) (held_length h c st) ∙ ap (λ b. nat_le (on_mark (quota c.setup) c.setup.high) (length (residents h) + 1) || b) st.evicting;
+      evicting = rw (held_length h c st, st.evicting) refl;
       counts = ap (counted (Filled k)) st.counts;
       events = omega (arith, st.events);
     }

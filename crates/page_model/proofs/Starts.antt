@@ -4,7 +4,7 @@ use Rattle.std.proofs.lemmas.Bool.{eqb-true, or_from}
 use Rattle.std.specs.Bool.{OnTrue}
 use Rattle.std.specs.List.{list_any}
 use Rattle.histories.specs.Histories.{History, first}
-use Rattle.histories.proofs.Tails.{first_prefix}
+use Rattle.histories.specs.Relations.{FirstIsPrefix}
 use Rattle.page_base.specs.declared.keys.Key.{Key}
 use Rattle.page_model.specs.declared.entry.Entry.{Entry}
 use Rattle.page_model.specs.declared.entry.Entry.TheVariants.{Filled, ReadFailed, StartRead, StartWrite, WriteFailed, Written}
@@ -49,16 +49,16 @@ in_flight_there ((o, Written k at bytes) ∷ h) r t e = let q = when_end (k.regi
 in_flight_there (x ∷ h) r t e = more h r t x refl (in_flight_there h r t e)
 
 -- the history before the start is the prefix that is as long as its place says
-before_first : (h : History Entry) (r : ℕ) (t : InFlight) → in_flight h r ≡ Some t → first (length t.before) h ≡ t.before
-before_first h r t e =
+before_first : FirstIsPrefix Entry → (h : History Entry) (r : ℕ) (t : InFlight) → in_flight h r ≡ Some t → first (length t.before) h ≡ t.before
+before_first first_prefix h r t e =
     let s = in_flight_there h r t e in
     first_prefix t.before h (s.later ++ (t.owner, s.start) ∷ [], s.is ∙ sym (append_assoc s.later ((t.owner, s.start) ∷ []) t.before))
 
-pub writes_taken : WritesAreTaken
-writes_taken s later g o at k bytes l =
+pub writes_taken : FirstIsPrefix Entry → WritesAreTaken
+writes_taken first_prefix s later g o at k bytes l =
     let here = legal_below s later ((o, Written k at bytes) ∷ g) l in
     let mine = own (in_flight g k.region) o k true here.2.ends in
     let before : before_start g k.region ≡ mine.started.before = before_is g k.region mine.started mine.is in
     let place : at ≡ length mine.started.before = here.2.place ∙ ap (λ (x : History Entry). length x) before in
-    let whole : before_start g k.region ≡ first at g = before ∙ (sym (before_first g k.region mine.started mine.is) ∙ ap (λ n. first n g) (sym place)) in
+    let whole : before_start g k.region ≡ first at g = before ∙ (sym (before_first first_prefix g k.region mine.started mine.is) ∙ ap (λ n. first n g) (sym place)) in
     subst (λ (x : History Entry). OnTrue (is_told s k) (bytes ≡ flat s x k)) whole here.2.taken

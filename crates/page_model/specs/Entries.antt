@@ -1,5 +1,5 @@
 -- Entries: the one that a note is, and what kind it is of.
-use Rattle.std.specs.Prelude.{ℕ, Bool, true, false, Option, Some, None, List, filter}
+use Rattle.std.specs.Prelude.{ℕ, Bool, true, false, ◌==◌, Option, Some, None, List, filter}
 use Rattle.histories.specs.Histories.{History, calls_of}
 use Rattle.page_base.specs.declared.keys.Key.{Key}
 use Rattle.page_model.specs.declared.entry.Entry.{Entry}
@@ -84,3 +84,12 @@ is_access e = false
 -- the accesses of one owner, the newest first
 abbrev pub accesses_of : ℕ → History Entry → List Entry
 accesses_of o h = filter is_access (calls_of o h)
+
+-- the page lies in this stripe
+abbrev pub lies_in : (stripe : Key → ℕ) → ℕ → Option Key → Bool
+lies_in stripe s None = false
+lies_in stripe s (Some k) = stripe k == s
+
+-- those entries that are of a page of one stripe
+abbrev pub of_stripe : (stripe : Key → ℕ) → ℕ → List Entry → List Entry
+of_stripe stripe s es = filter (λ e. lies_in stripe s (key_of e)) es

@@ -20,3 +20,4 @@ pub mod Events
 pub mod Readers
 pub mod Examples
 pub mod Laws
+pub mod Pieces

@@ -1,5 +1,7 @@
 -- What the readers of a core answer, and what its trips and its next service know, read off the history that it stands for.
 use Rattle.std.specs.Prelude.{◌+◌, ◌≤◌, ◌&&◌, ℕ, ◌<◌, true, false, ◌∷◌, length, Some, option_map, ◌≡◌}
+use Rattle.std.specs.Bool.{OnTrue}
+use Rattle.std.specs.List.{AllByRecursion}
 use Rattle.histories.specs.Histories.{History}
 use Rattle.page_base.specs.declared.keys.Key.{Key}
 use Rattle.page_base.specs.declared.keys.Why.{Why}
@@ -10,17 +12,18 @@ use Rattle.page_model.specs.declared.entry.Entry.TheVariants.{StartRead, StartWr
 use Rattle.page_model.specs.declared.entry.Cause.{Cause}
 use Rattle.page_model.specs.declared.seen.Next.TheVariants as serve
 use Rattle.page_model.specs.declared.seen.Pick.{Pick}
-use Rattle.page_model.specs.Setups.{Setup, Fits, regions, has_page}
+use Rattle.page_model.specs.Setups.{Setup, Fits, regions, has_page, is_told}
+use Rattle.page_model.specs.Memory.{flat}
 use Rattle.page_model.specs.InFlight.{is_home, is_reading, is_writing}
 use Rattle.page_model.specs.Residents.{residents, is_resident, free_frames, oldest_of}
-use Rattle.page_model.specs.Faults.{is_pending}
+use Rattle.page_model.specs.Faults.{last_why, is_pending}
 use Rattle.page_model.specs.Bits.{is_protected, is_dirty}
 use Rattle.page_model.specs.Closings.{is_closing, is_unmapped, is_quiet}
 use Rattle.page_model.specs.Evictions.{has_pressure, victim}
 use Rattle.page_model.specs.Serving.{next_of, hint_answer}
 use Rattle.page_model.specs.StoreFaults.{read_fault}
 use Rattle.page_model.specs.Core as core
-use Rattle.page_model.specs.Core.{Core, RegionSeen, Home, Reading, Writing, region_at}
+use Rattle.page_model.specs.Core.{Core, Resident, RegionSeen, Home, Reading, Writing, page_at, region_at}
 use Rattle.page_model.specs.Stands.{StandsFor, HomeLane}
 use Rattle.page_model.specs.Trips.{Trip, IsOpenRead, IsOpenWrite}
 
@@ -61,6 +64,52 @@ pub record ReadersAgree : Type 0 where
   pub regions : (h : History Entry) (c : Core) (r : ℕ) → StandsFor h c → r < regions c.setup
       → RegionReads h c r
   pub stripe : (h : History Entry) (c : Core) → StandsFor h c → StripeReads h c
+
+-- a page that is found is as the history says
+pub record IsAsSaid (s : Setup) (h : History Entry) (k : Key) (r : Resident) : Type 0 where
+  pub key : r.key ≡ k
+  pub protected : r.protected ≡ is_protected h k
+  pub dirty : r.dirty ≡ is_dirty h k
+  pub bytes : OnTrue (is_told s k) (r.bytes ≡ flat s h k)
+
+-- what the pages of a core show, of whatever key
+pub record PagesShow : Type 0 where
+  pub held : (h : History Entry) (c : Core) → StandsFor h c
+      → AllByRecursion (λ (r : Resident). has_page c.setup r.key ≡ true) c.pages
+  pub present : (h : History Entry) (c : Core) (k : Key) → StandsFor h c → core.is_present c k ≡ is_resident h k
+  pub dirty : (h : History Entry) (c : Core) (k : Key) → StandsFor h c
+      → core.is_dirty c k ≡ (is_resident h k && is_dirty h k)
+  pub found : (h : History Entry) (c : Core) (k : Key) (r : Resident) → StandsFor h c → page_at c k ≡ Some r
+      → IsAsSaid c.setup h k r
+
+-- why a fault is pending, and why the read that is out is made: for the page's last raise
+pub record WhysAgree : Type 0 where
+  pub pending : (h : History Entry) (c : Core) (k : Key) → StandsFor h c → core.is_pending c k ≡ true
+      → core.why_pending c k ≡ last_why h k
+  pub out : (h : History Entry) (c : Core) (k : Key) → StandsFor h c → core.is_reading c k ≡ true
+      → core.why_out c k ≡ last_why h k
+
+-- ---- what is known of the pages that are picked out
+
+-- a page that may leave, or may be written so that it can leave
+pub record MayLeave (c : Core) (p : Pick) : Type 0 where
+  pub page : has_page c.setup p.key ≡ true
+  pub present : core.is_present c p.key ≡ true
+  pub dirty : core.is_dirty c p.key ≡ p.dirty
+  pub not_writing : core.is_writing c p.key ≡ false
+  pub home : p.dirty ≡ true → core.is_home c p.key.region ≡ true
+
+-- a resident page of region r
+pub record IsHeldOf (c : Core) (r : ℕ) (p : Pick) : Type 0 where
+  pub region : p.key.region ≡ r
+  pub page : has_page c.setup p.key ≡ true
+  pub present : core.is_present c p.key ≡ true
+  pub dirty : core.is_dirty c p.key ≡ p.dirty
+
+pub record PicksKnow : Type 0 where
+  pub picked : (h : History Entry) (c : Core) (p : Pick) → StandsFor h c → core.pick c ≡ Some p → MayLeave c p
+  pub oldest : (h : History Entry) (c : Core) (r : ℕ) (p : Pick) → StandsFor h c → core.oldest_of c r ≡ Some p
+      → IsHeldOf c r p
 
 -- ---- what is known where a service may start
 
@@ -113,6 +162,8 @@ pub record ServiceKnows : Type 0 where
   pub drop : (h : History Entry) (c : Core) (k : Key) → StandsFor h c → core.next c ≡ serve.Drop k
       → core.is_pending c k ≡ true
   pub present : (h : History Entry) (c : Core) (k : Key) → StandsFor h c → core.is_present c k ≡ true
+      → has_page c.setup k ≡ true
+  pub pending : (h : History Entry) (c : Core) (k : Key) → StandsFor h c → core.is_pending c k ≡ true
       → has_page c.setup k ≡ true
   pub here : (c : Core) (r : ℕ) → core.is_home c r ≡ true → (lane : LaneSeen) × IsHere c r lane
   pub like : (h : History Entry) (c : Core) (r : ℕ) (lane : LaneSeen) → StandsFor h c → IsHere c r lane

@@ -79,6 +79,7 @@ pub record IsLaneOf (s : Setup) (r : ℕ) (shape : RegionShape) (origin : Origin
 -- A setup that fits together. Whoever makes a stripe has to know it.
 pub record Fits (s : Setup) : Type 0 where
   pub some_bytes : 0 < s.page_size
+  pub few_bytes : s.page_size ≤ 1048576
   pub some_frame : 0 < quota s
   pub some_fault : 0 < s.faults
   pub marks : s.low < s.high

@@ -3,7 +3,7 @@
 //! statements and the conditions stand in `specs/Events.antt`, and what is known of readers and trips in `specs/Readers.antt`.
 ghost use Rattle.page_model.specs.Events.{FreshStands, LoadStands, SaveStands, RaiseStands, HintStands, StartReadStands, FilledStands, ReadFailedStands};
 ghost use Rattle.page_model.specs.Events.{OpenPageStands, DropRaiseStands, StartWriteStands, WrittenStands, WriteFailedStands, EvictStands, ClosingStands, UnmappedStands};
-ghost use Rattle.page_model.specs.Readers.{ReadersAgree, ServiceKnows, StartsOpen};
+ghost use Rattle.page_model.specs.Readers.{ReadersAgree, PagesShow, WhysAgree, PicksKnow, ServiceKnows, StartsOpen};
 
 /// A stripe that has just been made stands for no entry.
 pub fn fresh_stands()
@@ -88,6 +88,21 @@ pub fn unmapped_stands()
 /// A stripe's readers answer what its history says.
 pub fn readers_agree()
     ensures { ReadersAgree }
+{}
+
+/// What the pages of a stripe show, of whatever key.
+pub fn pages_show()
+    ensures { PagesShow }
+{}
+
+/// A pending fault, and a read that is out, are for the page's last raise.
+pub fn whys_agree()
+    ensures { WhysAgree }
+{}
+
+/// What is known of the page that may leave, and of a region's oldest page.
+pub fn picks_know()
+    ensures { PicksKnow }
 {}
 
 /// What is known of the next service, of a lane that is home, and of a trip that is out.

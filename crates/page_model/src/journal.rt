@@ -16,6 +16,7 @@ pub trait Journal {
 
     ghost made_with: { Self → Self.Made };
 
+    /// Notes one more entry, made by this owner, on top of those that it has noted.
     fn note(&mut self, owner: u32, note: &Note<'_>)
         ensures noted { (h : History Entry) → has_noted self.old h → has_noted self.new ((owner, entry_of note.now) ∷ h) }
         ensures made { made_with self.new ≡ made_with self.old };

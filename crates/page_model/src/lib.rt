@@ -9,9 +9,11 @@
 //! - `specs/Core.antt` is what a stripe shows of itself, as plain data. `specs/Steps.antt` has one pure step per event.
 //!   `specs/Stands.antt` says when such data stand for a history.
 //! - The contracts of `laws` are the laws of legal histories. The contracts of `events` say, event by event, that the step of
-//!   what stands for a history stands for that history with the entry. `examples` has worked histories, right and wrong ones.
+//!   what stands for a history stands for that history with the entry. `examples` has worked histories, right and wrong ones,
+//!   and `applied` what laws say of them.
 #![tactic(auto)]
 
+pub mod applied;
 mod entry;
 pub mod events;
 pub mod examples;
