@@ -7,7 +7,7 @@ use Rattle.page_base.specs.Lanes.{Origin, LaneSeen, has_page, told_at}
 use Rattle.store_trait.proofs.Told.{told_of_page, told_by-same}
 use Rattle.store_trait.proofs.Rows.{rows_apart, stripe_is}
 use Rattle.store_trait.proofs.Shares.{page_of-append, page_of-appended}
-use Rattle.store_trait.specs.Memory.{memory_origin, page_of, share_seen}
+use Rattle.store_trait.specs.Memory.{memory_origin, page_of}
 use Rattle.store_trait.specs.MemLanes.{lane_origin, lane_seen, AreLanesOf, AreOfOneSplit, AreJoined}
 use Rattle.store_trait.specs.declared.mem_lane.MemLane.{MemLane}
 

@@ -1,11 +1,12 @@
 -- The pages of one stripe, copied one after another.
-use Rattle.std.proofs.Common.{◌≡◌, ◌≢◌, ◌⊎◌, inl, inr, ℕ, zero, suc, ◌+◌, ◌*◌, ◌-◌, ◌/◌, ◌%◌, ◌<◌, ◌≤◌, true, List, [], ◌∷◌, ◌++◌, slice_get, Some, length, take, drop, refl, sym, ap, ◌∙◌, arith, rules, length-append}
-use Rattle.std.proofs.lemmas.Bool.{cases_order, cases_lt, and_parts, eqb-true, ltb-true}
+use Rattle.std.proofs.Common.{◌≡◌, ◌⊎◌, inl, inr, ℕ, zero, suc, ◌+◌, ◌*◌, ◌-◌, ◌/◌, ◌%◌, ◌<◌, ◌≤◌, true, List, [], ◌∷◌, ◌++◌, slice_get, Some, length, refl, sym, ap, ◌∙◌, arith, rules, length-append}
+use Rattle.std.proofs.lemmas.Bool.{cases_order, cases_lt, and_parts, ltb-true}
 use Rattle.std.proofs.lemmas.List.{places, same_lists}
-use Rattle.std.proofs.lemmas.Nat.{div-add-mod', mul-le, mod_below}
-use Rattle.std.proofs.Math.Nat.{add-sub_cancel_left, add-mod, add-mod_right, add-div_right, mod-eq_of_lt, div-one}
+use Rattle.std.proofs.lemmas.Nat.{div-add-mod', mod_below}
+use Rattle.std.proofs.Math.Nat.{add-sub_cancel_left, add-mod, add-mod_right, add-div_right, mod-eq_of_lt}
 use Rattle.page_base.specs.Lanes.{has_page}
-use Rattle.store_trait.specs.Memory.{page_of, TakesShare, memory_origin}
+use Rattle.store_trait.specs.Memory.{page_of, memory_origin}
+use Rattle.store_trait.specs.InsideMemory.{TakesShare}
 use Rattle.store_trait.specs.WholePages.{length-page_of}
 use Rattle.store_trait.proofs.Rows.{rows_apart, stripe_is}
 

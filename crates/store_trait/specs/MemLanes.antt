@@ -1,5 +1,5 @@
 -- The lanes of stores in memory.
-use Rattle.std.specs.Prelude.{◌≡◌, ℕ, ◌*◌, ◌<◌, List, length, slice_get, Option, Some}
+use Rattle.std.specs.Prelude.{◌≡◌, ℕ, ◌*◌, ◌<◌, List, length, slice_get, Some}
 use Rattle.page_base.specs.Lanes.{Origin, LaneSeen}
 use Rattle.store_trait.specs.Memory.{memory_origin, memory_told, share_seen}
 use Rattle.store_trait.specs.declared.mem_lane.MemLane.{MemLane}

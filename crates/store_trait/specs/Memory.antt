@@ -1,6 +1,7 @@
 -- A store in memory, as a whole and by lanes.
-use Rattle.std.specs.Prelude.{◌≡◌, ℕ, ◌+◌, ◌*◌, ◌/◌, ◌%◌, ◌<◌, ◌≤◌, true, if◌then◌else◌, List, [], map, length, slice_range, Option, Some, None}
+use Rattle.std.specs.Prelude.{ℕ, ◌+◌, ◌*◌, ◌/◌, if◌then◌else◌, List, [], map, slice_range, Option, Some, None}
 use Rattle.std.specs.List.{range_with_len}
+use Rattle.page_base.specs.Backings.{in_memory}
 use Rattle.page_base.specs.Lanes.{Origin, LaneSeen, has_page}
 
 -- one page of bytes that lie page by page
@@ -10,7 +11,7 @@ page_of page_size bytes page = slice_range bytes (page * page_size) (page * page
 -- one stripe's lane of a region in memory, whose pages go round the stripes one by one
 abbrev pub memory_origin : (region pages page_size stripes stripe : ℕ) → Origin
 memory_origin region pages page_size stripes stripe =
-    record { path = []; region = region; pages = pages; page_size = page_size; group = 1; stripes = stripes; stripe = stripe }
+    record { backing = in_memory; region = region; pages = pages; page_size = page_size; group = 1; stripes = stripes; stripe = stripe }
 
 -- what a lane tells whose pages have the bytes that a function gives, and which tells of no other page
 abbrev pub told_by : Origin → (ℕ → List ℕ) → List (Option (List ℕ))
@@ -23,12 +24,3 @@ share_seen o contents = record { origin = o; told = told_by o (page_of o.page_si
 -- what a lane in memory tells: it keeps its own pages one after another
 abbrev pub memory_told : Origin → (kept : List ℕ) → List (Option (List ℕ))
 memory_told o kept = told_by o (λ p. page_of o.page_size kept (p / o.stripes))
-
--- the bytes reach to the end of each page of the lane
-abbrev pub ReachesEach : Origin → (kept : List ℕ) → Type 0
-ReachesEach o kept = (p : ℕ) → has_page o p ≡ true → p / o.stripes * o.page_size + o.page_size ≤ length kept
-
--- `own` has, one after another, those pages of `contents` whose number leaves `first` when it is divided by n
-pub record TakesShare (page_size pages n first : ℕ) (contents own : List ℕ) : Type 0 where
-  pub reaches : (p : ℕ) → p < pages → p % n ≡ first → p / n * page_size + page_size ≤ length own
-  pub same : (p : ℕ) → p < pages → p % n ≡ first → page_of page_size own (p / n) ≡ page_of page_size contents p

@@ -1,13 +1,14 @@
 -- The law of the trait for lanes in memory: each page that they tell is whole.
-use Rattle.std.specs.Prelude.{◌≡◌, ℕ, ◌+◌, ◌*◌, ◌/◌, ◌≤◌, Bool, true, false, List, length, Option, Some, None}
-use Rattle.std.proofs.Common.{cond, inl, inr, get_or, sym, subst, ◌∙◌, arith, zero-add}
+use Rattle.std.specs.Prelude.{◌≡◌, ℕ, ◌+◌, ◌*◌, ◌/◌, ◌≤◌, List, length, Option, Some, None}
+use Rattle.std.proofs.Common.{cond, inl, inr, sym, subst, ◌∙◌, arith, zero-add}
 use Rattle.std.specs.Option.{IfSome}
 use Rattle.std.proofs.lemmas.Bool.{cases_lt, cases_Bool, cond-true, cond-false, and_left, le-ltb}
 use Rattle.std.proofs.lemmas.List.{places, get_or_past}
 use Rattle.std.proofs.lemmas.List.FromFn.{length-map-range_with_len, get_or-map-range_with_len}
 use Rattle.std.proofs.Math.Nat.{add-sub_cancel_left}
 use Rattle.page_base.specs.Lanes.{Origin, has_page, told_at}
-use Rattle.store_trait.specs.Memory.{page_of, told_by, memory_told, ReachesEach}
+use Rattle.store_trait.specs.Memory.{page_of, told_by, memory_told}
+use Rattle.store_trait.specs.InsideMemory.{ReachesEach}
 
 pub length-told_by : (o : Origin) (f : ℕ → List ℕ) → length (told_by o f) ≡ o.pages
 length-told_by o f = length-map-range_with_len (λ p. cond (has_page o p) (Some (f p)) None) 0 o.pages

@@ -1,11 +1,16 @@
 //! A lane that fails at stated calls, to try what is written on stores.
-ghost use Rattle.std.specs.Prelude.{◌≡◌, ◌+◌, ◌-◌, ◌^◌, min};
+ghost use Rattle.std.specs.Prelude.{◌≡◌, ◌+◌, ◌-◌, ◌/◌, ◌^◌, min, length, true, OnOk};
+ghost use Rattle.page_base.specs.Lanes.{told_at};
+ghost use Rattle.store_trait.specs.Causes.{HasCause};
+ghost use Rattle.store_trait.specs.FailLanes.{is_listed, one_more, fresh_lane, fail_seen, read_more, written_more, FailsWhereListed};
+ghost use Rattle.store_trait.specs.Lanes.{IsPlace, IsPageOf, ChangesOnly, retold};
 
 use crate::{Store, StoreFault};
 use page_base::List;
+use std::marker::Model;
 
-/// A lane whose reads and writes fail at stated numbers. Both are counted from 1, each on its own. A call that fails
-/// changes nothing of the lane inside.
+/// A lane whose reads and writes fail at stated numbers. Both are counted from 1, each on its own. A call that is listed
+/// changes nothing of the lane inside; any other call is that lane's.
 #[derive(Drop)]
 pub struct FailLane<S> {
     inner: S,
@@ -16,9 +21,25 @@ pub struct FailLane<S> {
     failed: u64,
 }
 
+impl<S> Model for FailLane<S> {
+    ghost use Rattle.store_trait.specs.FailLanes.{FailSeen};
+
+    ghost Value = { FailSeen S };
+
+    ghost view = { λ l. record { inner = l.inner; failing_reads = l.failing_reads.items; failing_writes = l.failing_writes.items; reads = l.reads; writes = l.writes; failed = l.failed } };
+}
+
+// Whether the number is on the list.
+fn lists(list: &List<u64>, number: u64) -> bool
+    ensures { result ≡ is_listed number list.now.items }
+{
+    list.as_slice().contains(&number)
+}
+
 impl<S: Store> FailLane<S> {
     /// Neither list needs an order.
     pub fn new(inner: S, failing_reads: List<u64>, failing_writes: List<u64>) -> FailLane<S>
+        ensures lane { result ≡ fresh_lane inner failing_reads.items failing_writes.items }
         ensures origin { (⟦<FailLane<S> as Store>⟧.seen result).origin ≡ (S.seen inner).origin }
         ensures told { (⟦<FailLane<S> as Store>⟧.seen result).told ≡ (S.seen inner).told }
         ensures count { (⟦<FailLane<S> as Store>⟧.seen result).count ≡ min (S.seen inner).count (2 ^ 64 - 1) }
@@ -35,8 +56,8 @@ impl<S: Store> FailLane<S> {
 
     /// Counts one more failed call.
     fn fail(&mut self) -> StoreFault
-        ensures counted { self.new ≡ record self.old { failed = min (self.old.failed + 1) (2 ^ 64 - 1) } }
-        ensures carried { result.faults ≡ min (self.new.failed + (S.seen self.new.inner).count) (2 ^ 64 - 1) }
+        ensures counted { self.new ≡ record self.old { failed = one_more self.old.failed } }
+        ensures carried { result.faults ≡ (fail_seen S.seen self.new).count }
     {
         self.failed = self.failed.saturating_add(1);
         StoreFault {
@@ -46,13 +67,22 @@ impl<S: Store> FailLane<S> {
 }
 
 impl<S: Store> Store for FailLane<S> {
-    ghost use Rattle.std.specs.Prelude.{◌+◌, ◌-◌, ◌^◌, min};
+    ghost use Rattle.store_trait.specs.FailLanes.{fail_seen};
 
-    ghost seen = { λ s. record { origin = (S.seen s.inner).origin; told = (S.seen s.inner).told; count = min (s.failed + (S.seen s.inner).count) (2 ^ 64 - 1) } };
+    ghost seen = { fail_seen S.seen };
 
-    fn read_from_store(&mut self, buf: &mut [u8], off: u64) -> Result<(), StoreFault> {
+    fn read_from_store(&mut self, buf: &mut [u8], off: u64) -> Result<(), StoreFault>
+        requires place { IsPlace (S.seen self.old.inner).origin (length buf.old) off }
+        ensures bytes { OnOk result (IsPageOf (S.seen self.old.inner).told (off / (S.seen self.old.inner).origin.page_size) buf.new) }
+        ensures same { (S.seen self.new.inner).told ≡ (S.seen self.old.inner).told }
+        ensures origin { (S.seen self.new.inner).origin ≡ (S.seen self.old.inner).origin }
+        ensures cause { HasCause (λ e. e.faults) (fail_seen S.seen self.old).count (fail_seen S.seen self.new).count result }
+        ensures lists { self.new ≡ read_more self.old self.new }
+        ensures listed { FailsWhereListed S.seen (is_listed self.new.reads self.old.failing_reads) self.old self.new result }
+        ensures not_read { is_listed self.new.reads self.old.failing_reads ≡ true → buf.new ≡ buf.old }
+    {
         self.reads = self.reads.saturating_add(1);
-        if self.failing_reads.as_slice().contains(&self.reads) {
+        if lists(&self.failing_reads, self.reads) {
             return Err(self.fail());
         }
         match self.inner.read_from_store(buf, off) {
@@ -63,9 +93,17 @@ impl<S: Store> Store for FailLane<S> {
         }
     }
 
-    fn write_to_store(&mut self, buf: &[u8], off: u64) -> Result<(), StoreFault> {
+    fn write_to_store(&mut self, buf: &[u8], off: u64) -> Result<(), StoreFault>
+        requires place { IsPlace (S.seen self.old.inner).origin (length buf.now) off }
+        ensures written { let page = off / (S.seen self.old.inner).origin.page_size in OnOk result (told_at (S.seen self.new.inner).told page ≡ retold (told_at (S.seen self.old.inner).told page) buf.now) }
+        ensures others { ChangesOnly (off / (S.seen self.old.inner).origin.page_size) (S.seen self.old.inner).told (S.seen self.new.inner).told }
+        ensures origin { (S.seen self.new.inner).origin ≡ (S.seen self.old.inner).origin }
+        ensures cause { HasCause (λ e. e.faults) (fail_seen S.seen self.old).count (fail_seen S.seen self.new).count result }
+        ensures lists { self.new ≡ written_more self.old self.new }
+        ensures listed { FailsWhereListed S.seen (is_listed self.new.writes self.old.failing_writes) self.old self.new result }
+    {
         self.writes = self.writes.saturating_add(1);
-        if self.failing_writes.as_slice().contains(&self.writes) {
+        if lists(&self.failing_writes, self.writes) {
             return Err(self.fail());
         }
         match self.inner.write_to_store(buf, off) {

@@ -2,7 +2,8 @@
 //!
 //! It keeps its own pages one after another: of a region whose pages go round n stripes, page p is the lane's page p / n.
 ghost use Rattle.std.specs.Prelude.{◌≡◌, ◌<◌, ◌≤◌, ◌+◌, ◌*◌, ◌-◌, ◌/◌, ◌%◌, true, length, IfOk};
-ghost use Rattle.store_trait.specs.Memory.{memory_origin, ReachesEach, TakesShare};
+ghost use Rattle.store_trait.specs.Memory.{memory_origin};
+ghost use Rattle.store_trait.specs.InsideMemory.{ReachesEach, TakesShare};
 
 use crate::{Store, StoreFault};
 use page_base::{Bytes, OutOfMemory};

@@ -1,8 +1,8 @@
-use Rattle.std.proofs.Common.{◌≡◌, ◌+◌, ◌*◌, ◌/◌, ◌%◌, ◌≤◌, ◌<◌, ℕ, List, ◌++◌, length, refl, sym, ap, ◌∙◌, arith, rules}
+use Rattle.std.proofs.Common.{◌≡◌, ◌+◌, ◌*◌, ◌%◌, ◌≤◌, ℕ, ◌++◌, length, ap, ◌∙◌, arith, rules}
 use Rattle.std.proofs.lemmas.Nat.{mul-le}
-use Rattle.std.proofs.Math.Nat.{mod-eq_of_lt, div-eq_of_lt, add-mod_right, add-div_right}
+use Rattle.std.proofs.Math.Nat.{mod-eq_of_lt, div-eq_of_lt, add-mod_right}
 use Rattle.store_trait.proofs.Shares.{no_share, share_more, share_len}
-use Rattle.store_trait.specs.Memory.{page_of, TakesShare}
+use Rattle.store_trait.specs.Memory.{page_of}
 use Rattle.store_trait.proofs.mem_lane.share_of.Goals as goal
 
 pub loop-page-init : goal.loop-page-init

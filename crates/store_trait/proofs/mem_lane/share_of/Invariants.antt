@@ -1,5 +1,5 @@
 use Rattle.std.proofs.Common.{◌≡◌, ◌*◌, ◌-◌, ◌/◌, ◌%◌, length}
-use Rattle.store_trait.specs.Memory.{TakesShare}
+use Rattle.store_trait.specs.InsideMemory.{TakesShare}
 use Rattle.store_trait.proofs.mem_lane.share_of.Given as goal
 
 abbrev pub invariant-loop-page : goal.invariant-loop-page

@@ -1,4 +1,4 @@
-use Rattle.std.proofs.Common.{◌≡◌, ◌+◌, ◌*◌, ◌%◌, ℕ, ◌++◌, ◌<◌, length, slice_get, Some, ap, subst, sym, ◌∙◌, arith, rules, length-append}
+use Rattle.std.proofs.Common.{◌≡◌, ◌+◌, ◌*◌, ◌%◌, ℕ, ◌++◌, length, slice_get, Some, ap, subst, ◌∙◌, arith, rules, length-append}
 use Rattle.store_trait.proofs.Joins.{Shows, has_there, shows_more, all_shown, same_size, same_region, same_pages}
 use Rattle.store_trait.proofs.split.joined.Goals as goal
 

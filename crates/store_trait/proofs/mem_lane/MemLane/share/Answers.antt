@@ -1,6 +1,7 @@
-use Rattle.std.proofs.Common.{◌≡◌, ◌+◌, ◌-◌, ◌%◌, ◌/◌, ℕ, List, Option, ap, sym, ◌∙◌, arith}
+use Rattle.std.proofs.Common.{◌+◌, ◌-◌, ◌%◌, ◌/◌, ℕ, List, Option, ap, sym, ◌∙◌, arith}
 use Rattle.page_base.specs.Lanes.{LaneSeen}
-use Rattle.store_trait.specs.Memory.{memory_origin, page_of, TakesShare}
+use Rattle.store_trait.specs.Memory.{memory_origin, page_of}
+use Rattle.store_trait.specs.InsideMemory.{TakesShare}
 use Rattle.store_trait.proofs.Told.{told_by-same}
 use Rattle.store_trait.proofs.Shares.{has_residue, below_of}
 use Rattle.store_trait.proofs.mem_lane.MemLane.share.Goals as goal

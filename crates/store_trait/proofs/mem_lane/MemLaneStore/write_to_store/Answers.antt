@@ -1,4 +1,4 @@
-use Rattle.std.proofs.Common.{◌≡◌, ℕ, ◌+◌, ◌*◌, ◌/◌, ◌≤◌, List, length, refl, ap, ◌∙◌}
+use Rattle.std.proofs.Common.{ℕ, ◌/◌, refl, ap, ◌∙◌}
 use Rattle.page_base.specs.ListSeen.{spliced}
 use Rattle.store_trait.specs.MemLanes.{lane_origin}
 use Rattle.store_trait.proofs.Rows.{memory_changes, memory_written}
