@@ -11,7 +11,8 @@ use Rattle.page_base.specs.declared.keys.Key.{Key}
 use Rattle.page_base.specs.declared.keys.Raise.{Raise}
 use Rattle.page_base.specs.declared.keys.Why.TheVariants.{Read}
 use Rattle.page_base.specs.Pages.{same}
-use Rattle.fault_queue.specs.Queues.{is_of, pending_why, without, IsSound}
+use Rattle.fault_queue.specs.Queues.{is_of, pending_why, without}
+use Rattle.fault_queue.specs.InsideQueues.{IsSound}
 use Rattle.std.specs.Option.{option_map}
 use Rattle.fault_queue.proofs.Keys.{same-true}
 

@@ -1,1 +1,2 @@
+pub mod InsideQueues
 pub mod Queues

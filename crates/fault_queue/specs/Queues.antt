@@ -1,5 +1,5 @@
 -- The raises that wait in a fault queue.
-use Rattle.std.specs.Prelude.{ℕ, ◌≡◌, ◌≤◌, Bool, true, false, not, List, length, take, count_by, filter, find, Option, Some, All, Contains, slice_get}
+use Rattle.std.specs.Prelude.{ℕ, ◌≡◌, Bool, true, false, not, List, [], ◌∷◌, ◌++◌, take, filter, find, Option, Some, All, Contains, slice_get}
 use Rattle.std.specs.Option.{option_map}
 use Rattle.page_base.specs.declared.keys.Key.{Key}
 use Rattle.page_base.specs.declared.keys.Raise.{Raise}
@@ -26,6 +26,10 @@ without key = filter (λ (r : Raise). not (is_of key r))
 abbrev pub raise_of : Key × Why → Raise
 raise_of r = record { key = r.0; why = r.1 }
 
+-- the queue with a raise at its end
+abbrev pub with_raise : QueueSeen → Key → Why → QueueSeen
+with_raise q key why = record q { raises = q.raises ++ record { key = key; why = why } ∷ [] }
+
 -- the raise is the first that a test passes, by what the test answers: true for it, and false for each before it
 pub record IsFirst (answers : Raise → Bool → Type 0) (raises : List Raise) (raise : Raise) : Type 0 where
   pub place : ℕ
@@ -37,7 +41,6 @@ pub record IsFirst (answers : Raise → Bool → Type 0) (raises : List Raise) (
 abbrev pub Computes : (Raise → Bool → Type 0) → (Raise → Bool) → List Raise → Type 0
 Computes answers passes raises = (raise : Raise) (answer : Bool) → Contains raises raise → answers raise answer → answer ≡ passes raise
 
--- a page is raised at most once, and the raises are within the capacity
-pub record IsSound (raises : List Raise) (capacity : ℕ) : Type 0 where
-  pub once : (key : Key) → count_by (is_of key) raises ≤ 1
-  pub within : length raises ≤ capacity
+-- whatever the test computes on the raises, this is the first of them that passes it
+abbrev pub FindsComputed : (Raise → Bool → Type 0) → List Raise → Option Raise → Type 0
+FindsComputed answers raises found = (passes : Raise → Bool) → Computes answers passes raises → found ≡ find passes raises

@@ -1,9 +1,9 @@
 //! The fault queue: one vector of raises, the oldest first, with room for as many as the capacity.
 //!
 //! Each change has to keep one raise a page at the most, since `withdraw` takes the first that it finds.
-ghost use Rattle.std.specs.Prelude.{◌≡◌, ◌<◌, ◌≤◌, ◌↔◌, ◌∷◌, [], ◌++◌, Bool, length, find, false, Some, None, IsSome, IfSome, IfNone, IsErr, OnOk, OnErr, IfOk, All, Contains, position, option_map};
+ghost use Rattle.std.specs.Prelude.{◌≡◌, ◌<◌, ◌≤◌, ◌↔◌, [], length, false, Some, None, IsSome, IfSome, IfNone, IsErr, OnOk, OnErr, IfOk, All, Contains, position, option_map};
 ghost use Rattle.page_base.specs.declared.keys.Raise.{Raise};
-ghost use Rattle.fault_queue.specs.Queues.{pending_why, without, is_of, raise_of, IsFirst, Computes};
+ghost use Rattle.fault_queue.specs.Queues.{pending_why, without, is_of, raise_of, with_raise, IsFirst, FindsComputed};
 
 use page_base::{Key, OutOfMemory, Raise, Why};
 use std::alloc::Global;
@@ -24,7 +24,8 @@ pub struct FaultQueue {
 
 impl Model for FaultQueue {
     ghost use Rattle.std.specs.Prelude.{◌≤◌, vec_capacity};
-    ghost use Rattle.fault_queue.specs.Queues.{QueueSeen, IsSound};
+    ghost use Rattle.fault_queue.specs.Queues.{QueueSeen};
+    ghost use Rattle.fault_queue.specs.InsideQueues.{IsSound};
 
     ghost Value = { QueueSeen };
 
@@ -47,7 +48,7 @@ impl FaultQueue {
     /// Puts a raise at the end of the queue.
     pub fn raise(&mut self, key: Key, why: Why) -> Result<(), QueueFull>
         requires fresh { pending_why self.old.raises key ≡ None }
-        ensures ok { OnOk result (self.new ≡ record self.old { raises = self.old.raises ++ record { key = key; why = why } ∷ [] }) }
+        ensures ok { OnOk result (self.new ≡ with_raise self.old key why) }
         ensures room { OnOk result (length self.old.raises < self.old.capacity) }
         ensures full { IsErr result ↔ (length self.old.raises ≡ self.old.capacity) }
         ensures err { OnErr result (self.new ≡ self.old) }
@@ -64,7 +65,7 @@ impl FaultQueue {
         requires callable { (r : Raise) → Contains self.now.raises r → T.pre test r.key r.why }
         ensures first { IfSome result (λ r. IsFirst (λ q b. T.post test q.key q.why b) self.now.raises (raise_of r)) }
         ensures none { IfNone result (All (λ r. T.post test r.key r.why false) self.now.raises) }
-        ensures computed { (passes : Raise → Bool) → Computes (λ r b. T.post test r.key r.why b) passes self.now.raises → option_map raise_of result ≡ find passes self.now.raises }
+        ensures computed { FindsComputed (λ r b. T.post test r.key r.why b) self.now.raises (option_map raise_of result) }
     {
         for raise in &self.raises {
             if test(raise.key, raise.why) {

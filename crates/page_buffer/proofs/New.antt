@@ -5,7 +5,8 @@ use Rattle.std.proofs.lemmas.List.{get_or_append_left, get_or_push, get_or-repli
 use Rattle.std.proofs.Math.Seq.{get_or-append_seam}
 use Rattle.std.proofs.lemmas.List.Folds.{sum_by-replicate}
 use Rattle.page_buffer.specs.declared.frame.Frame.{Frame}
-use Rattle.page_buffer.specs.Frames.{FrameSeen, Free, is_free, is_resident, is_for, is_page}
+use Rattle.page_buffer.specs.Frames.{FrameSeen, Free, is_free, is_resident, is_for}
+use Rattle.page_buffer.specs.InsideFrames.{is_page}
 use Rattle.page_buffer.specs.Insides.{frame_seen, frames_seen, IsOrdered, IsListed, IsSound}
 use Rattle.page_buffer.proofs.Counts.{one}
 

@@ -7,7 +7,8 @@ use Rattle.std.proofs.Math.Seq.{get_or-append_seam}
 use Rattle.std.proofs.lemmas.List.Quantifiers.{all_pairs_push}
 use Rattle.page_base.specs.declared.keys.Key.{Key}
 use Rattle.page_base.specs.Pages.{same}
-use Rattle.page_buffer.specs.Frames.{FrameSeen, Free, Reserved, Resident, is_free, is_resident, is_for, is_page}
+use Rattle.page_buffer.specs.Frames.{FrameSeen, Free, Reserved, Resident, is_free, is_resident, is_for}
+use Rattle.page_buffer.specs.InsideFrames.{is_page}
 use Rattle.page_buffer.specs.Buffers.{without}
 use Rattle.page_buffer.specs.Insides.{IsOrdered, IsListed}
 use Rattle.page_buffer.proofs.Keys.{same-true, same_self}

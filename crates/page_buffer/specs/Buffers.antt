@@ -1,5 +1,5 @@
 -- The frames of a buffer, and the order in which its pages were filled.
-use Rattle.std.specs.Prelude.{ℕ, ◌++◌, Bool, true, false, not, List, [], ◌∷◌, filter, count_by, slice_index_or, slice_set, nat_le, if◌then◌else◌, ◌≡◌, take, All, Contains, Some, slice_get}
+use Rattle.std.specs.Prelude.{ℕ, ◌++◌, Bool, true, false, not, List, [], ◌∷◌, replicate, filter, find, count_by, slice_index_or, slice_set, nat_le, if◌then◌else◌, ◌≡◌, take, All, Contains, Option, Some, slice_get}
 use Rattle.std.specs.List.{list_any}
 use Rattle.page_base.specs.declared.keys.Key.{Key}
 use Rattle.page_base.specs.declared.keys.Marks.{Marks}
@@ -10,6 +10,10 @@ pub record BufferSeen : Type 0 where
   pub page_size : ℕ  -- the bytes of a page
   pub frames : List FrameSeen  -- by number, as many as the quota
   pub residents : List Key  -- the resident pages in order of filling, the oldest first
+
+-- a buffer of so many free frames
+abbrev pub all_free : (quota page_size : ℕ) → BufferSeen
+all_free quota page_size = record { page_size = page_size; frames = replicate quota Free; residents = [] }
 
 -- what a frame holds
 abbrev pub frame_of : BufferSeen → ℕ → FrameSeen
@@ -57,6 +61,10 @@ pub record IsFirst (answers : Key → Bool → Type 0) (keys : List Key) (key : 
 -- of the keys in the list, the test answers what `passes` computes
 abbrev pub Computes : (Key → Bool → Type 0) → (Key → Bool) → List Key → Type 0
 Computes answers passes keys = (key : Key) (answer : Bool) → Contains keys key → answers key answer → answer ≡ passes key
+
+-- whatever the test computes on the keys, this is the first of them that passes it
+abbrev pub FindsComputed : (Key → Bool → Type 0) → List Key → Option Key → Type 0
+FindsComputed answers keys found = (passes : Key → Bool) → Computes answers passes keys → found ≡ find passes keys
 
 -- whether a stripe evicts, by its resident pages: from the upper mark on, not from the lower mark down, and in between as before
 abbrev pub evicts : Bool → Marks → ℕ → Bool

@@ -30,12 +30,6 @@ is_for key Free = false
 is_for key (Reserved other) = same other key
 is_for key (Resident other bytes) = same other key
 
--- the frame holds the page
-abbrev pub is_page : Key → FrameSeen → Bool
-is_page key Free = false
-is_page key (Reserved other) = false
-is_page key (Resident other bytes) = same other key
-
 -- the resident page, if one is there
 abbrev pub resident_key : FrameSeen → Option Key
 resident_key Free = None

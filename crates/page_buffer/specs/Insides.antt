@@ -6,7 +6,8 @@ use Rattle.page_base.specs.Pages.{same}
 use Rattle.page_buffer.specs.declared.frame.Use.{Use}
 use Rattle.page_buffer.specs.declared.frame.Use.TheVariants as in_use
 use Rattle.page_buffer.specs.declared.frame.Frame.{Frame}
-use Rattle.page_buffer.specs.Frames.{FrameSeen, Free, Reserved, Resident, is_free, is_resident, is_for, is_page}
+use Rattle.page_buffer.specs.Frames.{FrameSeen, Free, Reserved, Resident, is_free, is_resident, is_for}
+use Rattle.page_buffer.specs.InsideFrames.{is_page}
 
 abbrev pub seen_as : Use → List ℕ → FrameSeen
 seen_as in_use.Free bytes = Free

@@ -1,3 +1,4 @@
 pub mod Frames
+pub mod InsideFrames
 pub mod Buffers
 pub mod Insides

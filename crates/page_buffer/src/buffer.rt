@@ -2,11 +2,11 @@
 //!
 //! What must stay true when this file is changed: a page has one frame at the most, `order` has each resident page once, and
 //! `free` has each free frame once. The rooms of `order` and `free` are for as many as there are frames, so neither grows.
-ghost use Rattle.std.specs.Prelude.{◌≡◌, ◌<◌, ◌≤◌, ◌+◌, Bool, [], length, find, replicate, count_by, false, IsTrue, IfSome, IfNone, IfOk, All, Contains, slice_get};
+ghost use Rattle.std.specs.Prelude.{◌≡◌, ◌<◌, ◌≤◌, ◌+◌, length, count_by, false, IsTrue, IfSome, IfNone, IfOk, All, Contains, slice_get};
 ghost use Rattle.std.specs.Borrow.{Lends, sem, Array, u8 as byte};
 ghost use Rattle.page_base.specs.declared.keys.Key.{Key};
 ghost use Rattle.page_buffer.specs.Frames.{Free, Reserved, is_reserved, is_resident, resident_key, bytes_of};
-ghost use Rattle.page_buffer.specs.Buffers.{frame_of, has_frame_for, free_frames, reserved_frames, with_frame, filled, released, with_page, evicts, IsFirst, Computes};
+ghost use Rattle.page_buffer.specs.Buffers.{all_free, frame_of, has_frame_for, free_frames, reserved_frames, with_frame, filled, released, with_page, evicts, IsFirst, FindsComputed};
 ghost use Rattle.page_buffer.specs.contracts.buffer.PageBuffer.{the_row};
 
 use crate::frame::{Frame, Use};
@@ -39,7 +39,7 @@ impl PageBuffer {
     /// A buffer of free frames. It takes all memory that the buffer ever takes.
     pub fn new(alloc: Global, quota: u32, page_size: u32) -> Result<PageBuffer, OutOfMemory>
         requires some { 1 ≤ quota }
-        ensures free { IfOk result (λ b. b ≡ record { page_size = page_size; frames = replicate quota Free; residents = [] }) }
+        ensures free { IfOk result (λ b. b ≡ all_free quota page_size) }
     {
         let room = quota as usize;
         let mut frames = Vec::with_capacity(alloc, room).map_err(|_| OutOfMemory)?;
@@ -139,7 +139,7 @@ impl PageBuffer {
         requires callable { (key : Key) → Contains self.now.residents key → T.pre test key }
         ensures first { IfSome result (IsFirst (T.post test) self.now.residents) }
         ensures none { IfNone result (All (λ key. T.post test key false) self.now.residents) }
-        ensures computed { (passes : Key → Bool) → Computes (T.post test) passes self.now.residents → result ≡ find passes self.now.residents }
+        ensures computed { FindsComputed (T.post test) self.now.residents result }
     {
         for key in &self.order {
             if test(*key) {

@@ -11,7 +11,7 @@ use Rattle.std.specs.List.Sorted.{IsStrictlyIncreasing}
 use Rattle.region_table.proofs.Cutting.{piece, first_piece, nonempty}
 use Rattle.region_table.specs.Covers.{AreJoined, CoversRange}
 use Rattle.region_table.specs.Pieces.{piece_in, pieces_of}
-use Rattle.region_table.specs.declared.pieces.Piece.{Piece}
+use Rattle.page_base.specs.declared.keys.Piece.{Piece}
 
 -- what goes from the pieces behind the first to all of them
 record Covered (P r off len : ℕ) (ps : List Piece) : Type 0 where

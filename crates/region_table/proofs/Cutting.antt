@@ -4,7 +4,7 @@ use Rattle.std.proofs.lemmas.Bool.{cases_lt}
 use Rattle.std.proofs.lemmas.Bool.Decides.{nat_tests}
 use Rattle.std.proofs.lemmas.Nat.{div-add-mod', div-mul-add, le-div}
 use Rattle.std.specs.List.{range_with_len}
-use Rattle.region_table.specs.declared.pieces.Piece.{Piece}
+use Rattle.page_base.specs.declared.keys.Piece.{Piece}
 use Rattle.region_table.specs.Pieces.{piece_in, pieces_of}
 
 abbrev pub piece : (region page place len : ℕ) → Piece

@@ -1,7 +1,7 @@
 -- What a run of pieces has left.
 use Rattle.std.specs.Prelude.{List}
 use Rattle.region_table.specs.Pieces.{pieces_of}
-use Rattle.region_table.specs.declared.pieces.Piece.{Piece}
+use Rattle.page_base.specs.declared.keys.Piece.{Piece}
 use Rattle.region_table.specs.declared.pieces.Pieces.{Pieces}
 
 abbrev pub rest_of : Pieces → List Piece

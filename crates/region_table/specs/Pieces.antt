@@ -1,7 +1,7 @@
 -- How a range of bytes is cut at page boundaries.
 use Rattle.std.specs.Prelude.{ℕ, ◌+◌, ◌-◌, ◌*◌, ◌/◌, ◌==◌, min, max, if◌then◌else◌, List, [], map}
 use Rattle.std.specs.List.{range_with_len}
-use Rattle.region_table.specs.declared.pieces.Piece.{Piece}
+use Rattle.page_base.specs.declared.keys.Piece.{Piece}
 
 -- the part of the range from `off` to below `stop` that lies in a page, which it has bytes of
 abbrev pub piece_in : (page_size region off stop page : ℕ) → Piece

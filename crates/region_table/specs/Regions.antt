@@ -1,5 +1,5 @@
 -- What is seen of regions and of their table.
-use Rattle.std.specs.Prelude.{ℕ, ◌/◌, Bool, List, map, sum_by, Option}
+use Rattle.std.specs.Prelude.{ℕ, ◌/◌, Bool, List, [], ◌∷◌, ◌++◌, map, sum_by, Option}
 use Rattle.std.specs.List.{position}
 use Rattle.std.specs.Str.{bytes_eq}
 use Rattle.page_base.specs.Backings.{Backing, in_memory, in_file, in_files}
@@ -34,6 +34,10 @@ group_of page_size backing = 1
 
 abbrev pub shape_of : ℕ → RegionSeen → RegionShape
 shape_of page_size r = record { pages = r.size / page_size; group = group_of page_size r.backing; writable = r.writable }
+
+-- the table with a region behind those that are there
+abbrev pub with_region : TableSeen → RegionSeen → TableSeen
+with_region t r = record t { regions = t.regions ++ r ∷ [] }
 
 abbrev pub shapes_of : TableSeen → List RegionShape
 shapes_of t = map (shape_of t.page_size) t.regions

@@ -1,9 +1,9 @@
 -- Which region may stand behind which others.
-use Rattle.std.specs.Prelude.{ℕ, ◌+◌, ◌/◌, ◌%◌, Bool, true, false, not, ◌&&◌, ◌||◌, ◌==◌, nat_lt, nat_le, if◌then◌else◌, List, [], ◌∷◌, ◌++◌, nat_eq, Option, Some, None, is_none}
+use Rattle.std.specs.Prelude.{ℕ, ◌+◌, ◌/◌, ◌%◌, Bool, true, false, not, ◌&&◌, ◌||◌, ◌==◌, nat_lt, nat_le, if◌then◌else◌, List, [], ◌∷◌, ◌++◌, nat_eq, Option, Some, None, is_none, unwrap_or}
 use Rattle.std.specs.List.{list_any, starts_with}
 use Rattle.std.specs.Str.{bytes_eq}
 use Rattle.region_table.specs.declared.spec.RegionFault.{RegionFault}
-use Rattle.region_table.specs.declared.spec.RegionFault.TheVariants.{SameName, SameStore, BadLength, TooManyPages}
+use Rattle.region_table.specs.declared.spec.RegionFault.TheVariants.{SameName, SameStore, BadLength, TooManyPages, OutOfMemory}
 use Rattle.page_base.specs.Backings.{Backing, in_memory, in_file, in_files}
 use Rattle.region_table.specs.Regions.{RegionSeen, TableSeen, page_count}
 
@@ -44,6 +44,10 @@ region_fault t r =
     (if list_any (λ (s : RegionSeen). shares_store s.backing r.backing) t.regions then Some SameStore else
     (if not (has_good_length t.page_size r) then Some BadLength else
     (if nat_lt 1048576 (page_count t + r.size / t.page_size) then Some (TooManyPages (page_count t + r.size / t.page_size)) else None)))
+
+-- why a region wasn't added: the first rule that it breaks, and want of memory where it breaks none
+abbrev pub refusal_to_add : TableSeen → RegionSeen → RegionFault
+refusal_to_add t r = unwrap_or (region_fault t r) OutOfMemory
 
 -- none of these regions breaks a rule behind those before it
 abbrev pub keeps_rules : (page_size : ℕ) (before regions : List RegionSeen) → Bool

@@ -13,6 +13,7 @@ mod table;
 #[cfg(test)]
 mod tests;
 
-pub use pieces::{Piece, Pieces};
+pub use page_base::Piece;
+pub use pieces::Pieces;
 pub use spec::{Kind, RegionFault, RegionSpec};
 pub use table::RegionTable;

@@ -1,15 +1,7 @@
 //! The pieces of a range: one for each page that it touches.
 ghost use Rattle.std.specs.Prelude.{◌≡◌, ◌≤◌, ◌+◌, ◌*◌};
 
-use page_base::Key;
-
-/// `len` bytes from `place` on in one page.
-#[derive(Clone, Copy, Debug, PartialEq, Eq)]
-pub struct Piece {
-    pub key: Key,
-    pub place: u32,
-    pub len: u32,
-}
+use page_base::{Key, Piece};
 
 /// The pieces of a range that are still to come, in rising order. It takes no memory. The range ends where the numbers
 /// of pages still fit.

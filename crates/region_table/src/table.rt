@@ -2,12 +2,13 @@
 //!
 //! The room of 64 regions is taken once, so that adding one takes memory for its name and path alone. `pages` is the
 //! pages of all regions together, and no region breaks a rule behind those before it.
-ghost use Rattle.std.specs.Prelude.{◌≡◌, ◌<◌, ◌≤◌, ◌+◌, ◌/◌, true, [], ◌∷◌, ◌++◌, length, slice_get, slice_index, Some, None, IfOk, OnOk, OnErr, IfErr, MatchResult, unwrap_or};
+ghost use Rattle.std.specs.Prelude.{◌≡◌, ◌<◌, ◌≤◌, ◌+◌, ◌/◌, true, [], length, slice_get, slice_index, Some, None, IfOk, OnOk, OnErr, IfErr};
 ghost use Rattle.page_base.specs.Layouts.{is_page_size};
 ghost use Rattle.region_table.specs.Cuts.{rest_of};
 ghost use Rattle.region_table.specs.Pieces.{pieces_of};
-ghost use Rattle.region_table.specs.Regions.{seen_of, shapes_of, lengths_of, page_count, number_of};
-ghost use Rattle.region_table.specs.Rules.{region_fault, keeps_rules};
+ghost use Rattle.region_table.specs.Regions.{seen_of, with_region, shapes_of, lengths_of, page_count, number_of};
+ghost use Rattle.region_table.specs.Rules.{region_fault, refusal_to_add, keeps_rules};
+ghost use Rattle.region_table.specs.InsideRules.{CountsWith};
 
 use crate::pieces::Pieces;
 use crate::region::{Region, has_good_length, has_name, has_store, place_of_name};
@@ -62,10 +63,10 @@ impl RegionTable {
     pub fn add(&mut self, spec: &RegionSpec) -> Result<u16, RegionFault>
         requires { length self.old.regions < 64 }
         ensures number { IfOk result (λ n. n ≡ length self.old.regions) }
-        ensures added { OnOk result (self.new ≡ record self.old { regions = self.old.regions ++ seen_of spec.now ∷ [] }) }
+        ensures added { OnOk result (self.new ≡ with_region self.old (seen_of spec.now)) }
         ensures accepted { OnOk result (region_fault self.old (seen_of spec.now) ≡ None) }
         // want of memory comes last: where no rule is broken
-        ensures refused { IfErr result (λ f. f ≡ unwrap_or (region_fault self.old (seen_of spec.now)) RegionFault.OutOfMemory) }
+        ensures refused { IfErr result (λ f. f ≡ refusal_to_add self.old (seen_of spec.now)) }
         ensures unchanged { OnErr result (self.new ≡ self.old) }
     {
         let pages = self.pages_with(spec)?;
@@ -78,7 +79,7 @@ impl RegionTable {
 
     /// The pages of all regions and one more, or the first rule that the one more breaks.
     fn pages_with(&self, spec: &RegionSpec) -> Result<u64, RegionFault>
-        ensures { MatchResult result (λ n. (region_fault self.now (seen_of spec.now) ≡ None) × (n ≤ 1048576) × (n ≡ page_count self.now + spec.now.length / self.now.page_size)) (λ f. region_fault self.now (seen_of spec.now) ≡ Some f) }
+        ensures { CountsWith self.now (seen_of spec.now) result }
     {
         let regions = self.regions.as_slice();
         if has_name(regions, spec.name.as_slice()) {
