@@ -1,0 +1,9 @@
+pub mod Arenas
+pub mod Blocks
+pub mod Cuts
+pub mod Cutting
+pub mod Pages
+pub mod Rights
+pub mod Shelved
+pub mod Steps
+pub mod Vecs
