@@ -1,0 +1,5 @@
+mod Rows
+pub mod PartRanges
+pub mod PutPages
+pub mod FileLemmas
+pub mod LaneParts

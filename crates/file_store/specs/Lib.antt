@@ -1,0 +1,11 @@
+pub mod FileLanes
+pub mod Folders
+pub mod InsideDirParts
+pub mod InsideFolderSeen
+pub mod InsideFolders
+pub mod InsideMemFolders
+pub mod InsideMemParts
+pub mod InsideMemSeen
+pub mod MemFiles
+pub mod Parts
+pub mod Shelves
