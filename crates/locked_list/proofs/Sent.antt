@@ -3,7 +3,7 @@ use denote.RattleType.{RattleType}
 use denote.Ref.{NamedLft}
 use denote.Param.Send.{IsSend, IsSync, sendable}
 use Rattle.std.proofs.Crossing.{crosses}
-use Rattle.turn_lock.proofs.Crosses.{pass_field_send, lock_sync}
+use Rattle.turn_lock.specs.Crossing.{pass_field_send, lock_sync}
 use Rattle.locked_list.specs.declared.list.Shelf.{Ghosts}
 use Rattle.locked_list.specs.contracts.list.Lines as lines
 use Rattle.locked_list.specs.contracts.adder.Adder as adder

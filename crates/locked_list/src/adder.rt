@@ -1,5 +1,5 @@
 //! A job that adds numbers to the list, one in each hold.
-ghost use Rattle.std.specs.Prelude.{◌≡◌, true, ◌∷◌};
+ghost use Rattle.std.specs.Prelude.{◌≡◌, true, false, ◌∷◌};
 ghost use Rattle.turn_lock.specs.Seen.{IsPassOf};
 ghost use Rattle.locked_list.specs.Adders.{IsSameBut};
 
@@ -8,7 +8,7 @@ use std::sync::Wait;
 use std::sync::atomic::{AtomicU64, Ordering};
 use turn_lock::{Pass, Signal, TurnLock, Work};
 
-/// Adds a number. `false` where memory or the pass's holds ran out; then it made no entry.
+/// Adds a number. `false` where memory or the pass's holds ran out; then it made no entry, and a spent pass is as it was.
 pub fn add_one<S: Shelf, R: Wait>(
     rt: &R,
     lock: &TurnLock<Lines<S>>,
@@ -19,14 +19,17 @@ pub fn add_one<S: Shelf, R: Wait>(
     ensures own { IsPassOf lock.now pass.new }
     ensures same { IsSameBut pass.old pass.new }
     ensures added { result ≡ true → pass.new.mine ≡ number ∷ pass.old.mine }
+    ensures none { result ≡ false → pass.new.mine ≡ pass.old.mine }
+    ensures spent { pass.old.holds ≡ lock.now.holds → (result ≡ false) × (pass.new ≡ pass.old) }
 {
-    if pass.left() == 0 {
-        return false;
-    }
-    let Ok((mut lines, held)) = lock.hold(rt, pass) else {
-        unreachable!()
+    let (mut lines, held) = match lock.hold(rt, pass) {
+        Ok(made) => made,
+        Err(spent) => {
+            spent.fault();
+            return false;
+        }
     };
-    let owner = held.pass.number();
+    let owner = held.number();
     if lines.items.push_front((owner, number)).is_err() {
         held.leave(lines);
         return false;
@@ -73,12 +76,14 @@ pub struct Flag {
 }
 
 impl Flag {
+    /// A flag that isn't set.
     pub fn new() -> Flag {
         Flag {
             word: AtomicU64::new(0),
         }
     }
 
+    /// Whether it is set; no clause says when.
     pub fn is_set(&self) -> bool {
         self.word.load(Ordering::SeqCst) != 0
     }

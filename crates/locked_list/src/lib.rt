@@ -8,10 +8,12 @@
 
 mod adder;
 mod list;
+mod one_of;
 mod run;
 #[cfg(test)]
 mod tests;
 
 pub use adder::{Adder, Flag, add_one};
 pub use list::{Lines, Noted, Shelf};
+pub use one_of::{OneOf, Passes, hold_one};
 pub use run::{Added, add_all, add_beside};

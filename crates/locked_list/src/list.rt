@@ -10,6 +10,7 @@ pub trait Shelf {
 
     ghost label_of: { Self → ℕ };
 
+    /// The label, which is the same as long as the shelf is there.
     fn label(&self) -> u64
         ensures { result ≡ label_of self.now };
 }

@@ -1,5 +1,5 @@
 //! Two threads, each with a thousand numbers.
-ghost use Rattle.std.specs.Prelude.{◌≡◌, [], true};
+ghost use Rattle.std.specs.Prelude.{◌≡◌, [], true, length, slice_get, Some};
 ghost use Rattle.turn_lock.specs.Seen.{IsPassOf};
 
 use super::*;
@@ -101,5 +101,23 @@ fn followers_work_beside_leaders(rt: HostRuntime) -> Result<(), Fail> {
     };
     let second = first.split(&lock)?;
     assert!(rt; lead_one(&rt, &lock, second, first));
+    Ok(())
+}
+
+#[test]
+fn a_hold_is_kept_with_all_passes(rt: HostRuntime) -> Result<(), Fail> {
+    let Ok((lock, first)) = TurnLock::new(rt.alloc(), empty(rt.alloc()), 1, COUNT) else {
+        return Err(Fail::from("out of memory"));
+    };
+    let mut passes = Passes {
+        passes: vec![in rt.alloc(); first]?,
+    };
+    let (mut lines, one) = hold_one(&rt, &lock, &mut passes, 0)?;
+    if lines.items.push_front((0, 5)).is_err() {
+        one.leave(lines);
+        return Err(Fail::from("out of memory"));
+    }
+    one.give(lines, &Noted { number: 5 });
+    assert_eq!(rt; passes.passes[0].left(), COUNT - 1);
     Ok(())
 }

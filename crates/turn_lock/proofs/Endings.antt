@@ -1,13 +1,13 @@
 -- Ended passes: their calls, holds and numbers.
-use Rattle.std.proofs.Common.{◌≡◌, ◌≢◌, ℕ, zero, suc, ◌+◌, ◌*◌, ◌≤◌, Bool, true, false, eqb, List, [], ◌∷◌, ◌++◌, length, Option, Some, sym, refl, ap, ◌∙◌, arith, eq-eqb, ne_eqb, add-mul, one-mul}
+use Rattle.std.proofs.Common.{◌≡◌, ◌≢◌, ℕ, zero, suc, ◌+◌, ◌*◌, ◌≤◌, Bool, true, false, eqb, List, [], ◌∷◌, ◌++◌, length, Option, Some, sym, refl, ap, subst, ◌∙◌, arith, eq-eqb, ne_eqb, add-mul, one-mul}
 use Rattle.std.specs.Prelude.{slice_get}
 use mathlib.Core.Logic.{dite}
 use native.Mathlib.Decide.{ℕ_discrete}
-use Rattle.histories.specs.Histories.{History, calls_of, by}
-use Rattle.histories.proofs.Calls.{calls_append, calls_other}
+use Rattle.histories.specs.Histories.{History, calls_of, by, GoesOn}
 use Rattle.turn_lock.specs.declared.view.Ended.{Ended}
-use Rattle.turn_lock.specs.Rule.{one_if, below, ended_holds, ended_times, EndedWell}
-use Rattle.turn_lock.specs.Seen.{HaveTheirCalls, MadeAtMost, AreNumbered, OwnersAreKnown}
+use Rattle.turn_lock.specs.InsideHistoryLaws.{HistoryLaws}
+use Rattle.turn_lock.specs.InsideRule.{one_if, below, ended_holds, ended_times, EndedWell, HaveSeen}
+use Rattle.turn_lock.specs.Seen.{HaveTheirCalls, HaveTheirParts, MadeAtMost, AreNumbered, OwnersAreKnown}
 use Rattle.turn_lock.proofs.Sums.{below_yes, below_no, below_most}
 
 pub some_one : {A : Type 0} (a b : A) → ◌≡◌ {A = Option A} (Some a) (Some b) → a ≡ b
@@ -24,17 +24,30 @@ module _ {E : Type 0} where
       let s : suc (length es) ≡ 1 + length es = omega arith in let z : ℕ = length es * most in rw (s, d, o) (omega arith)
 
   -- entries of one who is no ended pass
-  pub ended_more : (log : History E) (most o : ℕ) (new : List E) (es : List (Ended E)) → ended_times o es ≡ 0 → EndedWell log most es → EndedWell (by o new ++ log) most es
-  ended_more log most o new [] none h = tt
-  ended_more log most o new (e ∷ es) none h = (
-    calls_append e.number (by o new) log ∙ (ap (λ (l : List E). l ++ calls_of e.number log) (calls_other e.number o new (λ is. let x = ap one_if (eq-eqb e.number o is) in absurd (omega arith))) ∙ h.0),
+  pub ended_more : (laws : HistoryLaws E) (log : History E) (most o : ℕ) (new : List E) (es : List (Ended E)) → ended_times o es ≡ 0 → EndedWell log most es → EndedWell (by o new ++ log) most es
+  ended_more laws log most o new [] none h = tt
+  ended_more laws log most o new (e ∷ es) none h = (
+    laws.calls_of_both e.number (by o new) log ∙ (ap (λ (l : List E). l ++ calls_of e.number log) (laws.calls_of_one.others e.number o new (λ is. let x = ap one_if (eq-eqb e.number o is) in absurd (omega arith))) ∙ h.0),
     h.1,
-    ended_more log most o new es (let a = one_if_most (eqb e.number o) in omega arith) h.2,
+    ended_more laws log most o new es (let a = one_if_most (eqb e.number o) in omega arith) h.2,
   )
 
   pub ended_snoc : (log : History E) (most : ℕ) (es : List (Ended E)) (e : Ended E) → EndedWell log most es → (calls_of e.number log ≡ e.mine) × (e.holds ≤ most) → EndedWell log most (es ++ e ∷ [])
   ended_snoc log most [] e h n = (n.0, n.1, tt)
   ended_snoc log most (x ∷ xs) e h n = (h.0, h.1, ended_snoc log most xs e h.2 n)
+
+  pub parts_more : (laws : HistoryLaws E) (seen log : History E) (es : List (Ended E)) → GoesOn seen log → HaveSeen seen es → HaveSeen log es
+  parts_more laws seen log [] g h = tt
+  parts_more laws seen log (e ∷ es) g h = (laws.goes_on.trans e.seen seen log h.0 g, parts_more laws seen log es g h.1)
+
+  pub parts_snoc : (seen : History E) (es : List (Ended E)) (e : Ended E) → HaveSeen seen es → GoesOn e.seen seen → HaveSeen seen (es ++ e ∷ [])
+  parts_snoc seen [] e h g = (g, tt)
+  parts_snoc seen (x ∷ xs) e h g = (h.0, parts_snoc seen xs e h.1 g)
+
+  pub their_parts : (seen : History E) (es : List (Ended E)) → HaveSeen seen es → HaveTheirParts seen es
+  their_parts seen [] h i e is = absurd cc
+  their_parts seen (x ∷ xs) h zero e is = subst (λ (y : Ended E). GoesOn y.seen seen) (some_one x e is) h.0
+  their_parts seen (x ∷ xs) h (suc i) e is = their_parts seen xs h.1 i e is
 
   pub holds_snoc : (es : List (Ended E)) (e : Ended E) → ended_holds (es ++ e ∷ []) ≡ ended_holds es + e.holds
   holds_snoc [] e = omega arith

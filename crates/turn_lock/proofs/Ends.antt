@@ -10,11 +10,12 @@ use Rattle.histories.specs.Histories.{History, calls_of, GoesOn}
 use Rattle.turn_lock.specs.declared.view.Terms.{Terms}
 use Rattle.turn_lock.specs.declared.view.Turn.TheVariants.{Out}
 use Rattle.turn_lock.specs.declared.view.View.{View}
-use Rattle.turn_lock.specs.Views.{is_inside, opened}
-use Rattle.turn_lock.specs.Rule.{one_if, total, below, ended_times, EndedWell, bears, seats, Sits, Kept}
-use Rattle.turn_lock.specs.Plays.{Closes}
+use Rattle.turn_lock.specs.Views.{is_inside}
+use Rattle.turn_lock.specs.InsideViews.{opened}
+use Rattle.turn_lock.specs.InsideRule.{one_if, total, below, ended_times, EndedWell, bears, seats, Sits, Kept}
+use Rattle.turn_lock.specs.InsidePlays.{Closes}
 use Rattle.turn_lock.proofs.Sums.{total_two, total_one, below_next}
-use Rattle.turn_lock.proofs.Endings.{their_calls, their_holds, numbered, owners_known}
+use Rattle.turn_lock.proofs.Endings.{their_calls, their_parts, their_holds, numbered, owners_known}
 use Rattle.turn_lock.proofs.Views.{one_there, few}
 
 module _ {E : Type 0} where
@@ -61,6 +62,8 @@ module _ {T E F : Type 0} (stands : History E → T → Type 0) (fixed : T → F
           others = λ _ n. absurd (n refl);
           spent = λ off. absurd (true≢false off);
           ended = tt;
+          parts = tt;
+          grew = ([], refl);
           inside = λ t on. absurd (true≢false (sym (ap is_inside on)));
         }) j u e;
         home = λ _. (x, ap (λ l. get_elem? (map some l) 0) is, ok, same);
@@ -110,6 +113,7 @@ module _ {T E F : Type 0} (stands : History E → T → Type 0) (fixed : T → F
           same = home.3;
           mine = ap (λ n. calls_of n v.seen) (sym first) ∙ sits.own live;
           calls = their_calls v.seen terms.holds v.ended (subst (λ l. EndedWell l terms.holds v.ended) (sym whole) sits.ended);
+          parts = their_parts v.seen v.ended sits.parts;
           holds = their_holds k.log terms.holds v.ended sits.ended;
           numbers = numbered v.ended k.drawn drawn once;
           owners = owners_known v.seen v.ended k.drawn once (λ o far. ap (calls_of o) whole ∙ k.owners o far);

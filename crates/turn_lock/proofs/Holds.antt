@@ -8,16 +8,16 @@ use Rattle.std.proofs.Common.{⊎_elim}
 use Rattle.atomic_table.specs.Table.{Me, step, Act, keeps, takes, gives, Valid, stepped, Allows, put_back, carried_after}
 use Rattle.atomic_table.proofs.Lists.{at_set, set_here, set_again}
 use Rattle.histories.specs.Histories.{History, calls_of, by}
-use Rattle.histories.proofs.Calls.{calls_append, calls_own, calls_other}
-use Rattle.histories.proofs.Tails.{goes_on_trans}
+use Rattle.turn_lock.specs.InsideHistoryLaws.{HistoryLaws}
 use Rattle.turn_lock.specs.declared.view.Terms.{Terms}
 use Rattle.turn_lock.specs.declared.view.Turn.TheVariants.{Out, Waits, Inside}
 use Rattle.turn_lock.specs.declared.view.View.{View}
-use Rattle.turn_lock.specs.Views.{is_inside, ticket_of, waiting, entered, given_view}
-use Rattle.turn_lock.specs.Rule.{one_if, has_ticket, ended_times, made, bears, seats, Sits, Kept}
-use Rattle.turn_lock.specs.Plays.{drew, looked, gave}
+use Rattle.turn_lock.specs.Views.{is_inside}
+use Rattle.turn_lock.specs.InsideViews.{ticket_of, waiting, entered, given_view}
+use Rattle.turn_lock.specs.InsideRule.{one_if, has_ticket, ended_times, made, bears, seats, Sits, Kept}
+use Rattle.turn_lock.specs.InsidePlays.{drew, looked, gave}
 use Rattle.turn_lock.proofs.Sums.{total_set, below_next, one_at}
-use Rattle.turn_lock.proofs.Endings.{ended_more, some_one}
+use Rattle.turn_lock.proofs.Endings.{ended_more, parts_more, some_one}
 use Rattle.turn_lock.proofs.Views.{at_length, each_set, live_bears, known_set, were_out, few, alone, served, not_inside, other_number, number_drawn, none_ended}
 
 length_by : {E : Type 0} (o : ℕ) (es : List E) → length (by o es) ≡ length es
@@ -66,6 +66,8 @@ module _ {T E F : Type 0} (stands : History E → T → Type 0) (fixed : T → F
                 others = sits.others;
                 spent = λ off. absurd (true≢false (sym live ∙ off));
                 ended = sits.ended;
+                parts = sits.parts;
+                grew = sits.grew;
                 inside = λ t is. absurd (true≢false (sym (ap is_inside is)));
               });
           home = λ h. k.home (were_out s.views id v w at (ap is_inside out) h);
@@ -74,9 +76,9 @@ module _ {T E F : Type 0} (stands : History E → T → Type 0) (fixed : T → F
         refl,
       )
 
-  pub looks : (id : ℕ) (me : M) (slots t : ℕ) → me.0.live ≡ true → me.0.turn ≡ Waits t
+  pub looks : (laws : HistoryLaws E) (id : ℕ) (me : M) (slots t : ℕ) → me.0.live ≡ true → me.0.turn ≡ Waits t
       → Allows (Kept stands fixed terms) slots id me 1 (λ n. n) (looked stands fixed (step slots 1 0 0 none) me)
-  looks id me slots t live waits s k _ at fits =
+  looks laws id me slots t live waits s k _ at fits =
       let v = me.0 in
       let mine : ticket_of v.turn ≡ t = ap ticket_of waits in
       let P : List ℕ → Type 0 = λ ws. (w : View T E) × (a : Act (Option T)) × Valid s.homes me.1 a × Kept stands fixed terms (stepped (record s { words = ws }) 1 (get_or ws 1 0) id me.1 w a) × looked stands fixed (step slots 1 0 0 none) me (get_or ws 1 0) (w, carried_after me.1 a) in
@@ -117,6 +119,8 @@ module _ {T E F : Type 0} (stands : History E → T → Type 0) (fixed : T → F
                 others = sits.others;
                 spent = λ off. absurd (true≢false (sym live ∙ off));
                 ended = sits.ended;
+                parts = parts_more laws v.seen k.log v.ended sits.start sits.parts;
+                grew = laws.goes_on.trans v.before v.seen k.log sits.grew sits.start;
                 inside = λ n is. (sym (ap ticket_of is) ∙ (mine ∙ sym now), refl);
               });
           home = λ h. absurd (true≢false (h id w (set_here s.views id w (at_length s.views id v at))));
@@ -147,10 +151,10 @@ module _ {T E F : Type 0} (stands : History E → T → Type 0) (fixed : T → F
         ((λ hit. absurd (later (hit ∙ mine))), (λ _. refl)),
       )))
 
-  pub gives_turn : (id : ℕ) (me : M) (slots t : ℕ) (x : T) (es : List E) → slots ≡ 1 → me.0.live ≡ true → me.0.turn ≡ Inside t → me.1 ≡ (0, Some x) ∷ [] → length es ≤ 1
+  pub gives_turn : (laws : HistoryLaws E) (id : ℕ) (me : M) (slots t : ℕ) (x : T) (es : List E) → slots ≡ 1 → me.0.live ≡ true → me.0.turn ≡ Inside t → me.1 ≡ (0, Some x) ∷ [] → length es ≤ 1
       → stands (by me.0.number es ++ me.0.seen) x → fixed x ≡ fixed terms.origin.value
       → Allows (Kept stands fixed terms) slots id me 1 (λ n. (n + 1) % 2 ^ 64) (gave es (step slots 1 1 0 none) me)
-  gives_turn id me slots t x es one_slot live inside holds few_new ok same s k wide at fits =
+  gives_turn laws id me slots t x es one_slot live inside holds few_new ok same s k wide at fits =
       let v = me.0 in
       let w : View T E = given_view v es in
       let sits = k.each id v at in
@@ -181,32 +185,36 @@ module _ {T E F : Type 0} (stands : History E → T → Type 0) (fixed : T → F
           some_spare = k.some_spare;
           made_in_all = let a = total_set made s.views id v w at in let q = k.made_in_all in omega arith;
           short = let a = length-append new k.log in let b = k.short in omega arith;
-          owners = λ o far. calls_append o new k.log ∙ (ap (λ (l : List E). l ++ calls_of o k.log) (calls_other o v.number es (λ (is : o ≡ v.number). omega arith)) ∙ k.owners o far);
+          owners = λ o far. laws.calls_of_both o new k.log ∙ (ap (λ (l : List E). l ++ calls_of o k.log) (laws.calls_of_one.others o v.number es (λ (is : o ≡ v.number). omega arith)) ∙ k.owners o far);
           known = (id, w, set_here s.views id w (at_length s.views id v at), ap (λ (l : History E). new ++ l) whole);
           each = λ j u e. ⊎_elim
               (λ (is : (j ≡ id) × (w ≡ u)). subst (Sits (new ++ k.log) terms k.drawn (k.serving + 1)) is.1 (record {
                 start = ([], ap (λ (l : History E). new ++ l) (sym whole));
-                mine = λ _. calls_append v.number new k.log ∙ (ap (λ (l : List E). calls_of v.number new ++ l) (sits.mine live) ∙ ap (λ (l : List E). l ++ v.mine) (calls_own v.number es));
-                own = λ _. calls_append v.number new v.seen ∙ (ap (λ (l : List E). calls_of v.number new ++ l) (sits.own live) ∙ ap (λ (l : List E). l ++ v.mine) (calls_own v.number es));
+                mine = λ _. laws.calls_of_both v.number new k.log ∙ (ap (λ (l : List E). calls_of v.number new ++ l) (sits.mine live) ∙ ap (λ (l : List E). l ++ v.mine) (laws.calls_of_one.own v.number es));
+                own = λ _. laws.calls_of_both v.number new v.seen ∙ (ap (λ (l : List E). calls_of v.number new ++ l) (sits.own live) ∙ ap (λ (l : List E). l ++ v.mine) (laws.calls_of_one.own v.number es));
                 told = sits.told;
                 within = sits.within;
                 first = sits.first;
                 others = sits.others;
                 spent = λ off. absurd (true≢false (sym live ∙ off));
-                ended = ended_more k.log terms.holds v.number es v.ended none_is sits.ended;
+                ended = ended_more laws k.log terms.holds v.number es v.ended none_is sits.ended;
+                parts = parts_more laws v.seen (new ++ v.seen) v.ended (new, refl) sits.parts;
+                grew = laws.goes_on.trans v.before v.seen (new ++ v.seen) sits.grew (new, refl);
                 inside = λ n is. absurd (true≢false (sym (ap is_inside is)));
               }))
               (λ (is : (j ≢ id) × (get_elem? s.views j ≡ some u)). let theirs = k.each j u is.1 in let apart = other_number stands fixed terms s k id j v u at is.1 live is.0 in record {
-                start = goes_on_trans u.seen k.log (new ++ k.log) theirs.start (new, refl);
+                start = laws.goes_on.trans u.seen k.log (new ++ k.log) theirs.start (new, refl);
                 mine = λ on. let differs : u.number ≡ v.number → ⊥ = λ e. (let b = live_bears u v.number on (sym e) in omega arith) in
-                    calls_append u.number new k.log ∙ (ap (λ (l : List E). l ++ calls_of u.number k.log) (calls_other u.number v.number es differs) ∙ theirs.mine on);
+                    laws.calls_of_both u.number new k.log ∙ (ap (λ (l : List E). l ++ calls_of u.number k.log) (laws.calls_of_one.others u.number v.number es differs) ∙ theirs.mine on);
                 own = theirs.own;
                 told = theirs.told;
                 within = theirs.within;
                 first = theirs.first;
                 others = theirs.others;
                 spent = theirs.spent;
-                ended = ended_more k.log terms.holds v.number es u.ended (omega arith) theirs.ended;
+                ended = ended_more laws k.log terms.holds v.number es u.ended (omega arith) theirs.ended;
+                parts = theirs.parts;
+                grew = theirs.grew;
                 inside = λ n on. let z = theirs.inside n on in absurd (alone stands fixed terms s k t id j v u at is.1 one (ap (has_ticket t) on ∙ ap one_if (eq-eqb n t (z.0 ∙ sym now))) is.0);
               })
               (at_set s.views id j w u e);

@@ -1,4 +1,3 @@
-pub mod Crosses
 pub mod Endings
 pub mod Ends
 pub mod Holds

@@ -8,18 +8,18 @@ use Rattle.std.proofs.lemmas.Bool.{le-ltb, lt-ltb}
 use Rattle.atomic_table.specs.Table.{State, Me, step, Act, keeps, Valid, stepped, Allows, carried_after, Splits, Joins}
 use Rattle.atomic_table.proofs.Lists.{at_set, at_snoc, at_longer, set_here, set_else, set_again}
 use Rattle.histories.specs.Histories.{History, calls_of, GoesOn}
-use Rattle.histories.proofs.Calls.{calls_append}
-use Rattle.histories.proofs.Tails.{length-goes_on, shorter}
+use Rattle.turn_lock.specs.InsideHistoryLaws.{HistoryLaws}
 use Rattle.turn_lock.specs.declared.view.Terms.{Terms}
 use Rattle.turn_lock.specs.declared.view.Ended.{Ended}
 use Rattle.turn_lock.specs.declared.view.Turn.TheVariants.{Out}
 use Rattle.turn_lock.specs.declared.view.View.{View}
 use Rattle.turn_lock.specs.Seen.{longer}
-use Rattle.turn_lock.specs.Views.{is_inside, seats_of, next_number, less_spare, new_view, end_of, folded_view, spent_view}
-use Rattle.turn_lock.specs.Rule.{one_if, has_ticket, ended_holds, ended_times, made, bears, seats, Sits, Kept}
-use Rattle.turn_lock.specs.Plays.{learned}
+use Rattle.turn_lock.specs.Views.{is_inside}
+use Rattle.turn_lock.specs.InsideViews.{seats_of, next_number, less_spare, new_view, end_of, folded_view, spent_view}
+use Rattle.turn_lock.specs.InsideRule.{one_if, has_ticket, ended_holds, ended_times, made, bears, seats, HaveSeen, Sits, Kept}
+use Rattle.turn_lock.specs.InsidePlays.{learned}
 use Rattle.turn_lock.proofs.Sums.{total_set, total_at, total_snoc, below_next}
-use Rattle.turn_lock.proofs.Endings.{ended_snoc, holds_snoc, times_snoc}
+use Rattle.turn_lock.proofs.Endings.{ended_snoc, parts_more, parts_snoc, their_parts, holds_snoc, times_snoc}
 use Rattle.turn_lock.proofs.Views.{at_length, one_there, each_set, known_set, were_out, two_numbers, number_drawn}
 
 empty : {A : Type 0} (l : List A) → length l ≡ 0 → l ≡ []
@@ -28,16 +28,16 @@ empty (x ∷ l) e = absurd (omega arith)
 
 module _ {E : Type 0} where
   -- one who made nothing in the whole made nothing in a part
-  none_before : (o : ℕ) (seen log : History E) → GoesOn seen log → calls_of o log ≡ [] → calls_of o seen ≡ []
-  none_before o seen log g nothing = empty (calls_of o seen) (let e : calls_of o g.0 ++ calls_of o seen ≡ calls_of o log = sym (ap (calls_of o) g.1 ∙ calls_append o g.0 seen) in
+  none_before : (laws : HistoryLaws E) (o : ℕ) (seen log : History E) → GoesOn seen log → calls_of o log ≡ [] → calls_of o seen ≡ []
+  none_before laws o seen log g nothing = empty (calls_of o seen) (let e : calls_of o g.0 ++ calls_of o seen ≡ calls_of o log = sym (ap (calls_of o) g.1 ∙ laws.calls_of_both o g.0 seen) in
       let a : length (calls_of o g.0 ++ calls_of o seen) ≡ length (calls_of o log) = ap length e in let b = length-append (calls_of o g.0) (calls_of o seen) in
       let c : length (calls_of o log) ≡ 0 = ap length nothing in omega arith)
 
   -- one who made no entry from f to h made none from f to g, which lies between
-  same_between : (o : ℕ) (f g h : History E) → GoesOn f g → GoesOn g h → calls_of o f ≡ calls_of o h → calls_of o g ≡ calls_of o f
-  same_between o f g h p q same =
-      let e : calls_of o p.0 ++ calls_of o f ≡ calls_of o g = sym (ap (calls_of o) p.1 ∙ calls_append o p.0 f) in
-      let d : calls_of o q.0 ++ calls_of o g ≡ calls_of o h = sym (ap (calls_of o) q.1 ∙ calls_append o q.0 g) in
+  same_between : (laws : HistoryLaws E) (o : ℕ) (f g h : History E) → GoesOn f g → GoesOn g h → calls_of o f ≡ calls_of o h → calls_of o g ≡ calls_of o f
+  same_between laws o f g h p q same =
+      let e : calls_of o p.0 ++ calls_of o f ≡ calls_of o g = sym (ap (calls_of o) p.1 ∙ laws.calls_of_both o p.0 f) in
+      let d : calls_of o q.0 ++ calls_of o g ≡ calls_of o h = sym (ap (calls_of o) q.1 ∙ laws.calls_of_both o q.0 g) in
       let a : length (calls_of o p.0 ++ calls_of o f) ≡ length (calls_of o g) = ap length e in let a' = length-append (calls_of o p.0) (calls_of o f) in
       let b : length (calls_of o q.0 ++ calls_of o g) ≡ length (calls_of o h) = ap length d in let b' = length-append (calls_of o q.0) (calls_of o g) in
       let c : length (calls_of o f) ≡ length (calls_of o h) = ap length same in
@@ -61,8 +61,8 @@ module _ {T E F : Type 0} (stands : History E → T → Type 0) (fixed : T → F
   next_is : (s : S) (k : Kept stands fixed terms s) (id : ℕ) (v : View T E) → get_elem? s.views id ≡ some v → v.live ≡ true → v.number ≡ 0 → next_number v ≡ k.drawn
   next_is s k id v at live first = let sits = k.each id v at in let a = sits.first live first in let b : next_number v ≡ terms.seats - v.spare = ap (λ o. seats_of o - v.spare) (sits.told live) in omega arith
 
-  pub splits : (id : ℕ) (v : View T E) → v.live ≡ true → 0 < v.spare → Splits (Kept stands fixed terms) id v (less_spare v) (new_view v)
-  splits id v live some_spare s k at =
+  pub splits : (laws : HistoryLaws E) (id : ℕ) (v : View T E) → v.live ≡ true → 0 < v.spare → Splits (Kept stands fixed terms) id v (less_spare v) (new_view v)
+  splits laws id v live some_spare s k at =
       let w : View T E = less_spare v in
       let new : View T E = new_view v in
       let sits = k.each id v at in
@@ -100,6 +100,8 @@ module _ {T E F : Type 0} (stands : History E → T → Type 0) (fixed : T → F
               others = λ _ n. absurd (n first);
               spent = sits.spent;
               ended = sits.ended;
+              parts = sits.parts;
+              grew = sits.grew;
               inside = sits.inside;
             }))
             (λ (is : (j ≢ id) × (get_elem? s.views j ≡ some u)). let theirs = k.each j u is.1 in record {
@@ -112,19 +114,23 @@ module _ {T E F : Type 0} (stands : History E → T → Type 0) (fixed : T → F
               others = theirs.others;
               spent = theirs.spent;
               ended = theirs.ended;
+              parts = theirs.parts;
+              grew = theirs.grew;
               inside = theirs.inside;
             })
             (at_set s.views id j w u old))
             (λ (is : new ≡ u). subst (Sits k.log terms (k.drawn + 1) k.serving) is (record {
               start = sits.start;
               mine = λ _. k.owners new.number (omega arith);
-              own = λ _. none_before new.number v.seen k.log sits.start (k.owners new.number (omega arith));
+              own = λ _. none_before laws new.number v.seen k.log sits.start (k.owners new.number (omega arith));
               told = λ _. sits.told live;
               within = λ _. omega arith;
               first = λ _ zeroth. absurd (omega arith);
               others = λ _ _. (refl, refl);
               spent = λ off. absurd (true≢false off);
               ended = tt;
+              parts = tt;
+              grew = ([], refl);
               inside = λ t on. absurd (true≢false (sym (ap is_inside on)));
             }))
             (at_snoc views new u j e);
@@ -147,13 +153,15 @@ module _ {T E F : Type 0} (stands : History E → T → Type 0) (fixed : T → F
           refl,
           record {
             own = sits.own live;
+            parts = their_parts v.seen v.ended sits.parts;
+            grew = sits.grew;
             room = λ first. let a = total_at seats s.views id v at in let q = k.seated in let b = sits.first live first in let l : one_if v.live ≡ 1 = ap one_if live in let d : seats_of v.terms ≡ terms.seats = ap seats_of (sits.told live) in omega arith;
           },
         ),
       )
 
-  pub folds : (id : ℕ) (v : View T E) (other : ℕ) (w : View T E) → v.live ≡ true → v.number ≡ 0 → w.live ≡ true → w.turn ≡ Out → Joins (Kept stands fixed terms) id v other w (folded_view v w) spent_view
-  folds id v other w live first on out s k at apart there =
+  pub folds : (laws : HistoryLaws E) (id : ℕ) (v : View T E) (other : ℕ) (w : View T E) → v.live ≡ true → v.number ≡ 0 → w.live ≡ true → w.turn ≡ Out → Joins (Kept stands fixed terms) id v other w (folded_view v w) spent_view
+  folds laws id v other w live first on out s k at apart there =
       let x : View T E = folded_view v w in
       let middle : List (View T E) = set s.views id x in
       let at' : get_elem? s.views other ≡ some w = sym (set_else s.views id other x apart) ∙ there in
@@ -180,7 +188,7 @@ module _ {T E F : Type 0} (stands : History E → T → Type 0) (fixed : T → F
         owners = k.owners;
         known = let j = k.known.0 in let u = k.known.1 in let is = k.known.2 in let seen = k.known.3 in dite (ℕ_discrete j id)
             (λ e. let all : v.seen ≡ k.log = ap (λ (y : View T E). y.seen) (one_there s.views id j v u at is e) ∙ seen in
-            (id, x, here, longer_cases (λ l. l ≡ k.log) v.seen w.seen (λ lt. let l = length-goes_on w.seen k.log theirs.start in let m : length v.seen ≡ length k.log = ap length all in absurd (omega arith)) (λ _. all)))
+            (id, x, here, longer_cases (λ l. l ≡ k.log) v.seen w.seen (λ lt. let l = laws.goes_on.length_ w.seen k.log theirs.start in let m : length v.seen ≡ length k.log = ap length all in absurd (omega arith)) (λ _. all)))
             (λ ne. dite (ℕ_discrete j other)
             (λ e. let all : w.seen ≡ k.log = ap (λ (y : View T E). y.seen) (one_there s.views other j w u at' is e) ∙ seen in
             (id, x, here, longer_cases (λ l. l ≡ k.log) v.seen w.seen (λ _. all) (λ le. whole_is v.seen k.log sits.start (let m : length w.seen ≡ length k.log = ap length all in omega arith))))
@@ -191,7 +199,7 @@ module _ {T E F : Type 0} (stands : History E → T → Type 0) (fixed : T → F
               start = longer_cases (λ l. GoesOn l k.log) v.seen w.seen (λ _. theirs.start) (λ _. sits.start);
               mine = sits.mine;
               own = λ _. longer_cases (λ l. calls_of v.number l ≡ v.mine) v.seen w.seen
-                  (λ lt. same_between v.number v.seen w.seen k.log (shorter v.seen w.seen k.log sits.start theirs.start (omega arith)) theirs.start (sits.own live ∙ sym (sits.mine live)) ∙ sits.own live)
+                  (λ lt. same_between laws v.number v.seen w.seen k.log (laws.shorter v.seen w.seen k.log sits.start theirs.start (omega arith)) theirs.start (sits.own live ∙ sym (sits.mine live)) ∙ sits.own live)
                   (λ _. sits.own live);
               told = sits.told;
               within = sits.within;
@@ -199,7 +207,11 @@ module _ {T E F : Type 0} (stands : History E → T → Type 0) (fixed : T → F
               others = λ _ n. absurd (n first);
               spent = λ off. absurd (true≢false (sym live ∙ off));
               ended = ended_snoc k.log terms.holds v.ended e sits.ended (theirs.mine on, theirs.within on);
-              inside = λ t is. let z = sits.inside t is in (z.0, longer_cases (λ l. l ≡ k.log) v.seen w.seen (λ lt. let l = length-goes_on w.seen k.log theirs.start in let m : length v.seen ≡ length k.log = ap length z.1 in absurd (omega arith)) (λ _. z.1));
+              parts = longer_cases (λ l. HaveSeen l (v.ended ++ e ∷ [])) v.seen w.seen
+                  (λ lt. parts_snoc w.seen v.ended e (parts_more laws v.seen w.seen v.ended (laws.shorter v.seen w.seen k.log sits.start theirs.start (omega arith)) sits.parts) ([], refl))
+                  (λ le. parts_snoc v.seen v.ended e sits.parts (laws.shorter w.seen v.seen k.log theirs.start sits.start le));
+              grew = longer_cases (λ l. GoesOn v.seen l) v.seen w.seen (λ lt. laws.shorter v.seen w.seen k.log sits.start theirs.start (omega arith)) (λ _. ([], refl));
+              inside = λ t is. let z = sits.inside t is in (z.0, longer_cases (λ l. l ≡ k.log) v.seen w.seen (λ lt. let l = laws.goes_on.length_ w.seen k.log theirs.start in let m : length v.seen ≡ length k.log = ap length z.1 in absurd (omega arith)) (λ _. z.1));
             }) i y is)
             (record {
               start = (k.log, sym (append-nil k.log));
@@ -211,6 +223,8 @@ module _ {T E F : Type 0} (stands : History E → T → Type 0) (fixed : T → F
               others = λ off. absurd (true≢false (sym off));
               spent = λ _. (refl, refl, refl);
               ended = tt;
+              parts = tt;
+              grew = ([], refl);
               inside = λ t is. absurd (true≢false (sym (ap is_inside is)));
             });
         home = λ h. k.home (were_out s.views id v x at (h id x here) (were_out middle other w spent_view there (ap is_inside out) h));

@@ -5,7 +5,7 @@ use mathlib.Core.Option.{some, some-injective, some-ne-none}
 use native.Mathlib.Decide.{ℕ_discrete, dec_lt}
 use lib.ListN.{get_elem?}
 use Rattle.std.proofs.lemmas.Bool.{lt-ltb, le-ltb}
-use Rattle.turn_lock.specs.Rule.{one_if, total, below}
+use Rattle.turn_lock.specs.InsideRule.{one_if, total, below}
 
 module _ {A : Type 0} (f : A → ℕ) where
   pub total_set : (l : List A) (j : ℕ) (v w : A) → get_elem? l j ≡ some v → total f (set l j w) + f v ≡ total f l + f w

@@ -12,7 +12,7 @@ use Rattle.turn_lock.specs.declared.view.Turn.{Turn}
 use Rattle.turn_lock.specs.declared.view.Turn.TheVariants.{Out, Waits, Inside}
 use Rattle.turn_lock.specs.declared.view.View.{View}
 use Rattle.turn_lock.specs.Views.{is_inside}
-use Rattle.turn_lock.specs.Rule.{one_if, total, has_ticket, ended_holds, ended_times, made, bears, seats, Kept}
+use Rattle.turn_lock.specs.InsideRule.{one_if, total, has_ticket, ended_holds, ended_times, made, bears, seats, Kept}
 use Rattle.turn_lock.proofs.Sums.{total_at, total_two, total_times, below_yes, below_most}
 use Rattle.turn_lock.proofs.Endings.{ended_few}
 

@@ -1,29 +1,14 @@
--- How the fields of a lock and of a pass are seen, and what always holds of them.
-use Rattle.std.specs.Prelude.{◌≡◌, ℕ, ◌+◌, ◌≤◌, Bool, true, false, List, [], ◌∷◌, length, Option, Some, None}
+-- How the fields of a lock and of a pass are seen.
+use Rattle.std.specs.Prelude.{ℕ}
 use Rattle.atomic_table.specs.Seated.{TableId}
-use Rattle.atomic_table.specs.Table.{Me}
-use Rattle.histories.specs.Histories.{calls_of}
 use Rattle.turn_lock.specs.declared.view.Terms.{Terms}
-use Rattle.turn_lock.specs.declared.view.Turn.{Turn}
-use Rattle.turn_lock.specs.declared.view.Turn.TheVariants.{Out, Waits, Inside}
 use Rattle.turn_lock.specs.declared.view.View.{View}
 use Rattle.turn_lock.specs.Seen.{LockSeen, PassSeen}
 use Rattle.turn_lock.specs.Views.{is_inside}
 
-abbrev pub is_waiting : Turn → Bool
-is_waiting Out = false
-is_waiting (Waits n) = true
-is_waiting (Inside n) = false
-
 module _ {T : Type 0} where
   abbrev pub lock_seen : TableId → Terms T → LockSeen T
   lock_seen table terms = record { table = table; origin = terms.origin.value; seats = terms.seats; holds = terms.holds }
-
-  -- in a hold the value is out of the slot, which the pass's seat has
-  abbrev pub slots_of : Turn → List (ℕ × Option T)
-  slots_of Out = []
-  slots_of (Waits n) = []
-  slots_of (Inside n) = (0, None) ∷ []
 
 module _ {T E : Type 0} where
   abbrev pub pass_seen : TableId → Terms T → ℕ → View T E → PassSeen T E
@@ -38,16 +23,3 @@ module _ {T E : Type 0} where
     ended = v.ended;
     inside = is_inside v.turn;
   }
-
-  -- the pass's fields are those of its view, which is live and doesn't wait
-  pub record IsSound (me : Me (Option T) (View T E)) (terms : Terms T) (number spare out left : ℕ) : Type 0 where
-    pub live : me.0.live ≡ true
-    pub told : me.0.terms ≡ Some terms
-    pub number_is : me.0.number ≡ number
-    pub spare_is : me.0.spare ≡ spare
-    pub left_is : left + me.0.holds ≡ terms.holds
-    pub out_is : number ≡ 0 → out + length me.0.ended + spare + 1 ≡ terms.seats
-    pub fits : out + length me.0.ended + spare + 1 ≤ terms.seats
-    pub settled : is_waiting me.0.turn ≡ false
-    pub slots : me.1 ≡ slots_of me.0.turn
-    pub own : calls_of me.0.number me.0.seen ≡ me.0.mine

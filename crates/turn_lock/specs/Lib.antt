@@ -1,7 +1,11 @@
+pub mod Crossing
 pub mod Faults
 pub mod Fields
+pub mod InsideFields
+pub mod InsideHistoryLaws
+pub mod InsidePlays
+pub mod InsideRule
+pub mod InsideViews
 pub mod Jobs
-pub mod Plays
-pub mod Rule
 pub mod Seen
 pub mod Views

@@ -1,7 +1,8 @@
 -- What contracts see of a lock, of a pass and of a closed lock, and the words that they share.
 use Rattle.std.specs.Prelude.{◌≡◌, ◌≢◌, ℕ, ◌+◌, ◌-◌, ◌≤◌, Bool, true, false, ltb, if◌then◌else◌, List, [], ◌∷◌, ◌++◌, length, slice_get, Some}
+use Rattle.std.specs.Borrow.{GName}
 use Rattle.atomic_table.specs.Seated.{TableId}
-use Rattle.histories.specs.Histories.{History, calls_of}
+use Rattle.histories.specs.Histories.{History, calls_of, GoesOn}
 use Rattle.turn_lock.specs.declared.view.Ended.{Ended}
 
 -- a lock: which one it is, the value that it was made with, and how many passes and holds of each there may be
@@ -23,6 +24,12 @@ pub record PassSeen (T E : Type 0) : Type 0 where
   pub mine : List E
   pub ended : List (Ended E)
   pub inside : Bool
+
+-- a hold: its lock, its pass as it is in the hold, and the name of the reference to that pass
+pub record HeldSeen (T E : Type 0) : Type 0 where
+  pub lock : LockSeen T
+  pub pass : PassSeen T E
+  pub name : GName
 
 module _ {T E : Type 0} where
   -- the pass is of this lock, and in no hold
@@ -65,7 +72,7 @@ module _ {E : Type 0} where
 module _ {T E : Type 0} where
   -- what is kept of a pass that was folded back
   abbrev pub ended_of : PassSeen T E → Ended E
-  ended_of pass = record { number = pass.number; mine = pass.mine; holds = pass.holds }
+  ended_of pass = record { number = pass.number; mine = pass.mine; holds = pass.holds; seen = pass.seen }
 
   -- the first pass after another was folded into it
   abbrev pub folded : PassSeen T E → PassSeen T E → PassSeen T E
@@ -75,6 +82,10 @@ module _ {E : Type 0} where
   -- each ended pass has its entries in the history, and they are its calls there
   abbrev pub HaveTheirCalls : History E → List (Ended E) → Type 0
   HaveTheirCalls h ended = (i : ℕ) (e : Ended E) → slice_get ended i ≡ Some e → calls_of e.number h ≡ e.mine
+
+  -- what each ended pass had seen is a part of the history
+  abbrev pub HaveTheirParts : History E → List (Ended E) → Type 0
+  HaveTheirParts h ended = (i : ℕ) (e : Ended E) → slice_get ended i ≡ Some e → GoesOn e.seen h
 
   -- no ended pass made more holds than this
   abbrev pub MadeAtMost : ℕ → List (Ended E) → Type 0

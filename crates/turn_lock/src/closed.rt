@@ -2,7 +2,7 @@
 ghost use Rattle.std.specs.Prelude.{◌≡◌, ℕ, ◌*◌, ◌≤◌, length, List};
 ghost use Rattle.std.specs.Borrow.{ftrue};
 ghost use Rattle.histories.specs.Histories.{History, calls_of};
-ghost use Rattle.turn_lock.specs.Seen.{IsPassOf, HaveTheirCalls, MadeAtMost, AreNumbered, OwnersAreKnown};
+ghost use Rattle.turn_lock.specs.Seen.{IsPassOf, HaveTheirCalls, HaveTheirParts, MadeAtMost, AreNumbered, OwnersAreKnown};
 ghost use Rattle.turn_lock.specs.declared.view.Ended.{Ended};
 
 use crate::lock::TurnLock;
@@ -50,6 +50,7 @@ impl<T: Stands> TurnLock<T> {
 
         ensures mine { calls_of 0 result.1.history ≡ pass.mine }
         ensures calls { HaveTheirCalls result.1.history result.1.ended }
+        ensures parts { HaveTheirParts result.1.history result.1.ended }
         ensures made { MadeAtMost self.holds result.1.ended }
         ensures numbers { AreNumbered result.1.ended }
         ensures owners { OwnersAreKnown result.1.history result.1.ended }

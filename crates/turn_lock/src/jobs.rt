@@ -18,6 +18,7 @@ pub trait Work {
     // What it was before, and what it is afterwards.
     ghost leaves: { Self → Self → Type 0 };
 
+    /// Does the job, in place.
     fn work(&mut self)
         requires { ready self.old }
         ensures { leaves self.old self.new };
@@ -25,6 +26,7 @@ pub trait Work {
 
 /// What is told once that a part of the work is done.
 pub trait Signal {
+    /// Tells that the part is done.
     fn set<R: Wait>(&self, rt: &R);
 }
 

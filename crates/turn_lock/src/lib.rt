@@ -8,6 +8,10 @@
 //! once. `Held::give` puts the value back with one entry more, `Held::leave` with none. Nothing of the history is stored:
 //! the passes have no bytes for it, and the contracts speak of it through what a pass shows (`specs/Seen.antt`).
 //!
+//! A pass that has made all its holds gets no further one and comes back as it was. A `Held` can't be let go. Who keeps
+//! its pass with others lends it: `Held::lend` hands the pass back in the hold with a `Lent`, which can't be let go either,
+//! and `TurnLock::resume` takes both. When passes are folded together, what each had seen is a part of what is seen then.
+//!
 //! It doesn't promise that a hold is ever served, an order among those that wait, or any time. `work_two`,
 //! `work_all` and `work_beside` run jobs that own their passes in threads of their own.
 #![tactic(auto)]
@@ -16,6 +20,7 @@ mod closed;
 mod faults;
 mod held;
 mod jobs;
+mod laws;
 mod lock;
 mod pass;
 mod rule;
@@ -26,8 +31,8 @@ mod tests;
 mod view;
 
 pub use closed::Closed;
-pub use faults::{NewFault, NoSpare, PassSpent};
-pub use held::Held;
+pub use faults::{NewFault, NoSpare, PassSpent, Spent, SpentPass};
+pub use held::{Held, Holding, Lent};
 pub use jobs::{Signal, Work, work_all, work_beside, work_two};
 pub use lock::{MOST_SEATS, TurnLock};
 pub use pass::{Pass, Seated};

@@ -1,9 +1,10 @@
 //! A pass: the right to hold a lock so many times, and what its owner knows of the lock's history.
 ghost use Rattle.std.specs.Prelude.{◌≡◌, ℕ, ◌+◌, ◌<◌, IfOk, IsErr, OnErr, OnOk, IsTrue, ◌↔◌};
-ghost use Rattle.histories.specs.Histories.{calls_of};
-ghost use Rattle.turn_lock.specs.Seen.{IsPassOf, newcomer, split_once, folded};
+ghost use Rattle.histories.specs.Histories.{calls_of, GoesOn};
+ghost use Rattle.turn_lock.specs.Seen.{IsPassOf, HaveTheirParts, newcomer, split_once, folded};
 
 use crate::faults::NoSpare;
+use crate::laws::history_laws;
 use crate::lock::TurnLock;
 use crate::rule::{Learn, Part, TICKETS};
 use crate::stands::Stands;
@@ -16,6 +17,7 @@ use std::snapshot::Snapshot;
 pub type Pass<T> = Seated<T, <T as Stands>::Entry>;
 
 /// A pass of a lock over values `T` with entries `E`. Letting it go is harmless, but the first pass is then never alone.
+/// While a hold of it is lent it has to be kept: the `Lent` is of use with this pass alone.
 #[derive(Drop)]
 pub struct Seated<T, E> {
     pub(crate) seat: Seat<Option<T>, View<T, E>>,
@@ -31,7 +33,8 @@ impl<T, E> Model for Seated<T, E> {
 
     ghost Value = { PassSeen T E };
 
-    ghost use Rattle.turn_lock.specs.Fields.{pass_seen, IsSound};
+    ghost use Rattle.turn_lock.specs.Fields.{pass_seen};
+    ghost use Rattle.turn_lock.specs.InsideFields.{IsSound};
 
     ghost view = { λ p. pass_seen p.seat.table_id p.terms.value p.out p.seat.me.0 };
 
@@ -46,6 +49,7 @@ impl<T, E> Seated<T, E> {
         self.left
     }
 
+    /// Its number, by which the history names its entries; 0 is the first pass's.
     pub fn number(&self) -> u32
         ensures { result ≡ self.now.number }
     {
@@ -79,6 +83,7 @@ impl<T: Stands> Seated<T, T::Entry> {
         if self.spare == 0 {
             return Err(NoSpare);
         }
+        history_laws::<T::Entry>();
         let number = lock.terms.seats - self.spare;
         let mut seat = lock.table.shared.split_seat::<Part>(&mut self.seat);
         lock.table.shared.load::<Learn>(&mut seat, TICKETS);
@@ -101,7 +106,10 @@ impl<T: Stands> Seated<T, T::Entry> {
         requires other { IsPassOf lock.now other }
         ensures some_out { 0 < self.old.out }
         ensures this { self.new ≡ folded self.old other }
+        ensures grew { GoesOn self.old.seen self.new.seen × GoesOn other.seen self.new.seen }
+        ensures parts { HaveTheirParts self.new.seen self.new.ended }
     {
+        history_laws::<T::Entry>();
         let Seated {
             seat,
             terms: _,

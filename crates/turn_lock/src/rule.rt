@@ -1,7 +1,7 @@
 //! The rule of the lock's table, and what each kind of atomic step tells the pass that makes it.
 //!
 //! The table has two words, the next ticket and the ticket that is served, and one slot, which has the value while nobody
-//! is in a hold. Each step keeps the rule `Kept` of `specs/Rule.antt`; a new kind of step needs a lemma that says so.
+//! is in a hold. Each step keeps the rule `Kept` of `specs/InsideRule.antt`; a new kind of step needs a lemma that says so.
 use crate::stands::Stands;
 use crate::view::{Terms, View};
 use atomic_table::{Join, Play, Seat, Shared, Split, Table, TableRule};
@@ -19,8 +19,8 @@ pub struct Turns<T> {
 }
 
 impl<T: Stands> TableRule<Option<T>, View<T, T::Entry>, Terms<T>> for Turns<T> {
-    ghost use Rattle.turn_lock.specs.Rule.{Kept};
-    ghost use Rattle.turn_lock.specs.Views.{opened};
+    ghost use Rattle.turn_lock.specs.InsideRule.{Kept};
+    ghost use Rattle.turn_lock.specs.InsideViews.{opened};
 
     ghost holds = { Kept T.stands T.fixed };
 
@@ -44,7 +44,7 @@ pub(crate) type TurnSeat<T> = Seat<Option<T>, View<T, <T as Stands>::Entry>>;
 pub struct Draw;
 
 impl<T, E> Play<Option<T>, View<T, E>> for Draw {
-    ghost use Rattle.turn_lock.specs.Plays.{drew};
+    ghost use Rattle.turn_lock.specs.InsidePlays.{drew};
 
     ghost then = { drew };
 }
@@ -55,7 +55,7 @@ pub struct Look<T> {
 }
 
 impl<T: Stands> Play<Option<T>, View<T, T::Entry>> for Look<T> {
-    ghost use Rattle.turn_lock.specs.Plays.{looked};
+    ghost use Rattle.turn_lock.specs.InsidePlays.{looked};
 
     ghost then = { looked T.stands T.fixed };
 }
@@ -79,7 +79,7 @@ pub struct Give<G> {
 }
 
 impl<T, E, G: Choice<E>> Play<Option<T>, View<T, E>> for Give<G> {
-    ghost use Rattle.turn_lock.specs.Plays.{gave};
+    ghost use Rattle.turn_lock.specs.InsidePlays.{gave};
 
     ghost then = { gave G.entries };
 }
@@ -88,7 +88,7 @@ impl<T, E, G: Choice<E>> Play<Option<T>, View<T, E>> for Give<G> {
 pub struct Part;
 
 impl<T, E> Split<View<T, E>> for Part {
-    ghost use Rattle.turn_lock.specs.Views.{less_spare, new_view};
+    ghost use Rattle.turn_lock.specs.InsideViews.{less_spare, new_view};
 
     ghost left = { less_spare };
 
@@ -96,7 +96,7 @@ impl<T, E> Split<View<T, E>> for Part {
 }
 
 impl<T, E> Join<View<T, E>> for Part {
-    ghost use Rattle.turn_lock.specs.Views.{folded_view, spent_view};
+    ghost use Rattle.turn_lock.specs.InsideViews.{folded_view, spent_view};
 
     ghost both = { folded_view };
 
@@ -107,7 +107,7 @@ impl<T, E> Join<View<T, E>> for Part {
 pub struct Learn;
 
 impl<T, E> Play<Option<T>, View<T, E>> for Learn {
-    ghost use Rattle.turn_lock.specs.Plays.{learned};
+    ghost use Rattle.turn_lock.specs.InsidePlays.{learned};
 
     ghost then = { learned };
 }

@@ -1,10 +1,11 @@
 //! The atomic steps of a hold: draw a ticket, wait for it to be served and take the value, give the value back. And the
 //! end of the table, where the value comes out for good.
 ghost use Rattle.std.specs.Prelude.{◌≡◌, ℕ, ◌+◌, ◌<◌, ◌≤◌, true, length, [], ◌∷◌, None};
-ghost use Rattle.turn_lock.specs.Views.{waiting, given_view};
-ghost use Rattle.turn_lock.specs.Plays.{Enters, Closes};
+ghost use Rattle.turn_lock.specs.InsideViews.{waiting, given_view};
+ghost use Rattle.turn_lock.specs.InsidePlays.{Enters, Closes};
 ghost use Rattle.turn_lock.specs.declared.view.Turn.TheVariants.{Out, Waits, Inside};
 
+use crate::laws::history_laws;
 use crate::rule::{Choice, Draw, Give, Look, SERVING, TICKETS, TurnSeat, TurnTable, Turnstile};
 use crate::stands::Stands;
 use std::hint;
@@ -62,6 +63,7 @@ pub(crate) fn enter<T: Stands, R: Wait>(
     ensures table { seat.new.table_id ≡ seat.old.table_id }
     ensures view { Enters T.stands T.fixed seat.old.me.0 result seat.new.me }
 {
+    history_laws::<T::Entry>();
     for _ in rt.forever() {
         if table.load::<Look<T>>(seat, SERVING) == ticket {
             let Some(value) = table.exchange(seat, 0, None) else {
@@ -90,6 +92,7 @@ pub(crate) fn finish<T: Stands, N, G: Choice<T::Entry>>(
     ensures table { seat.new.table_id ≡ seat.old.table_id }
     ensures view { seat.new.me ≡ (given_view seat.old.me.0 G.entries, []) }
 {
+    history_laws::<T::Entry>();
     let left = table.exchange(seat, 0, Some(value));
     let None = left else { unreachable!() };
     table.fetch_add::<Give<G>>(seat, SERVING, 1);

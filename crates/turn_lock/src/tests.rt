@@ -1,5 +1,5 @@
 //! Rows worked by hand: what the clauses say, at one concrete value.
-ghost use Rattle.std.specs.Prelude.{◌≡◌, [], IfOk, OnOk};
+ghost use Rattle.std.specs.Prelude.{◌≡◌, [], IfOk, OnErr, OnOk};
 ghost use Rattle.turn_lock.specs.Seen.{IsPassOf};
 
 use super::*;
@@ -47,9 +47,13 @@ fn empty_list(alloc: Global, name: u64) -> Named
 // A hold that changes nothing.
 fn visit<R: Wait>(rt: &R, lock: &TurnLock<Named>, pass: &mut Pass<Named>) -> Result<(), PassSpent>
     requires { IsPassOf lock.now pass.old }
-    ensures { OnOk result (IsPassOf lock.now pass.new) }
+    ensures ok { OnOk result (IsPassOf lock.now pass.new) }
+    ensures spent { OnErr result (pass.new ≡ pass.old) }
 {
-    let (value, held) = lock.hold(rt, pass)?;
+    let (value, held) = match lock.hold(rt, pass) {
+        Ok(made) => made,
+        Err(spent) => return Err(spent.fault()),
+    };
     held.leave(value);
     Ok(())
 }
@@ -87,7 +91,9 @@ fn alone_before_the_split_and_after_the_fold(rt: HostRuntime) -> Result<(), Fail
     assert!(rt; !first.alone());
     assert_eq!(rt; second.number(), 1);
     assert_eq!(rt; first.split(&lock).is_err(), true);
-    let (mut value, held) = lock.hold(&rt, &mut second)?;
+    let Ok((mut value, held)) = lock.hold(&rt, &mut second) else {
+        return Err(Fail::from("spent"));
+    };
     if value.items.push_front((1, 5)).is_err() {
         held.leave(value);
         return Err(Fail::from("out of memory"));

@@ -1,6 +1,6 @@
 //! What the table's rule knows: the lock's terms, and one view for each pass.
 //!
-//! Only proofs have values of `View`, `Ended` and `Turn`. The rule over them is in `specs/Rule.antt`.
+//! Only proofs have values of `View`, `Ended` and `Turn`. The rule over them is in `specs/InsideRule.antt`.
 use std::collections::LinkedList;
 use std::snapshot::Snapshot;
 
@@ -14,11 +14,13 @@ pub struct Terms<T> {
     pub holds: u64,
 }
 
-/// A pass that was folded back: its number, the entries that it made, the newest first, and its holds.
+/// A pass that was folded back: its number, the entries that it made, the newest first, its holds, and
+/// the history that it had seen.
 pub struct Ended<E> {
     pub number: u32,
     pub mine: LinkedList<E>,
     pub holds: u64,
+    pub seen: LinkedList<(u32, E)>,
 }
 
 /// Where a pass is: in no hold, waiting with a ticket, or in a hold by a ticket.
@@ -37,8 +39,9 @@ pub struct View<T, E> {
     pub spare: u32,
     /// Holds that it made.
     pub holds: u64,
-    /// The history that it has seen, and its own entries in it.
+    /// The history that it has seen, what it had seen of it before another pass was last folded in, and its own entries.
     pub seen: LinkedList<(u32, E)>,
+    pub before: LinkedList<(u32, E)>,
     pub mine: LinkedList<E>,
     pub ended: LinkedList<Ended<E>>,
     pub turn: Turn,

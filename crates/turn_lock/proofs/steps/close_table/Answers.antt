@@ -1,6 +1,6 @@
 use Rattle.std.proofs.Common.{◌≡◌, Some, sym, subst, ◌∙◌}
 use mathlib.Core.Option.{some-injective}
-use Rattle.turn_lock.specs.Plays.{Closes}
+use Rattle.turn_lock.specs.InsidePlays.{Closes}
 use Rattle.turn_lock.proofs.Ends.{closes}
 use Rattle.turn_lock.proofs.Endings.{some_one}
 use Rattle.turn_lock.proofs.steps.close_table.Goals as goal

@@ -1,13 +1,13 @@
 use Rattle.std.proofs.Common.{rules, ◌∷◌, Some, ap, sym, ◌∙◌}
 use Rattle.atomic_table.specs.Table.{rest}
-use Rattle.turn_lock.specs.Views.{ticket_of}
+use Rattle.turn_lock.specs.InsideViews.{ticket_of}
 use Rattle.turn_lock.proofs.Holds.{looks}
 use Rattle.turn_lock.proofs.steps.enter.Goals as goal
 
 pub load-requires : goal.load-requires
 load-requires g c =
     let same = c.loop.invariant.1 in
-    (search rules, search rules, looks g.T.Stands.stands g.T.Stands.fixed _ _ _ _ c.args.ticket (ap (λ m. m.0.live) same ∙ c.requires.live) (ap (λ m. m.0.turn) same ∙ c.requires.waits.0))
+    (search rules, search rules, looks g.T.Stands.stands g.T.Stands.fixed _ c.history_laws.ensures _ _ _ c.args.ticket (ap (λ m. m.0.live) same ∙ c.requires.live) (ap (λ m. m.0.turn) same ∙ c.requires.waits.0))
 
 -- the seat has the slot, with the value in it
 pub exchange-requires : goal.exchange-requires

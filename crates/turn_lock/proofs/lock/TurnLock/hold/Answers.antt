@@ -1,6 +1,5 @@
 use Rattle.std.proofs.Common.{◌≡◌, ℕ, ◌<◌, ◌*◌, ◌^◌, length, ap, sym, ◌∙◌, subst, arith}
 use Rattle.histories.specs.Histories.{calls_of, GoesOn, Others}
-use Rattle.histories.proofs.Calls.{others_alone}
 use Rattle.turn_lock.proofs.lock.TurnLock.hold.Goals as goal
 
 -- its own entries were the same before, by what always holds of a pass, and are now, by what the look told
@@ -10,7 +9,7 @@ returns-clause-others g c =
     let drawn = c.draw-ticket.ensures.view in
     let found = c.enter-value.ensures.view in
     let after = c.enter-value.new.seat.me.0 in
-    let others = others_alone v.number v.seen found.0 (subst (λ m. GoesOn m.0.seen found.0) drawn found.2.start) (c.pass.invariant.own ∙ sym (subst (λ m. calls_of m.0.number found.0 ≡ m.0.mine) drawn found.2.mine)) in
+    let others = c.history_laws.ensures.same_calls v.number v.seen found.0 (subst (λ m. GoesOn m.0.seen found.0) drawn found.2.start) (c.pass.invariant.own ∙ sym (subst (λ m. calls_of m.0.number found.0 ≡ m.0.mine) drawn found.2.mine)) in
     let number : v.number ≡ after.number = sym (ap (λ m. m.0.number) found.1 ∙ ap (λ m. m.0.number) drawn) in
     let seen : found.0 ≡ after.seen = sym (ap (λ m. m.0.seen) found.1) in
     subst (λ n. Others n c.args.pass.now.seen after.seen) number

@@ -1,11 +1,11 @@
 use Rattle.std.proofs.Common.{rules, ◌+◌, ◌-◌, ◌≤◌, length, Some, ap, sym, subst, ◌∙◌}
-use Rattle.turn_lock.specs.Fields.{IsSound}
+use Rattle.turn_lock.specs.InsideFields.{IsSound}
 use Rattle.turn_lock.proofs.Parting.{splits, learns}
 use Rattle.turn_lock.proofs.Passes.{same_terms, new_is_sound}
 use Rattle.turn_lock.proofs.pass.Seated+T+T+Entry.split.Goals as goal
 
 pub split_seat-seat-requires : goal.split_seat-seat-requires
-split_seat-seat-requires g c = (search rules, search rules, splits g.T.Stands.stands g.T.Stands.fixed _ _ _ c.self.invariant.live (search rules))
+split_seat-seat-requires g c = (search rules, search rules, splits g.T.Stands.stands g.T.Stands.fixed _ c.history_laws.ensures _ _ c.self.invariant.live (search rules))
 
 pub load-requires : goal.load-requires
 load-requires g c = (search rules, search rules, learns g.T.Stands.stands g.T.Stands.fixed _ _ _ _ (search rules))

@@ -4,8 +4,8 @@ use Rattle.atomic_table.specs.Table.{Me, Step, rest}
 use Rattle.histories.specs.Histories.{History, calls_of, GoesOn}
 use Rattle.turn_lock.specs.declared.view.Terms.{Terms}
 use Rattle.turn_lock.specs.declared.view.View.{View}
-use Rattle.turn_lock.specs.Seen.{HaveTheirCalls, MadeAtMost, AreNumbered, OwnersAreKnown}
-use Rattle.turn_lock.specs.Views.{ticket_of, seats_of, waiting, entered, given_view}
+use Rattle.turn_lock.specs.Seen.{HaveTheirCalls, HaveTheirParts, MadeAtMost, AreNumbered, OwnersAreKnown}
+use Rattle.turn_lock.specs.InsideViews.{ticket_of, seats_of, waiting, entered, given_view}
 
 module _ {T E : Type 0} where
   -- the number found is its ticket
@@ -19,6 +19,8 @@ module _ {T E : Type 0} where
   -- what the rule says of a live view
   pub record Known (v : View T E) : Type 0 where
     pub own : calls_of v.number v.seen ≡ v.mine
+    pub parts : HaveTheirParts v.seen v.ended
+    pub grew : GoesOn v.before v.seen
     pub room : v.number ≡ 0 → length v.ended + v.spare + 1 ≤ seats_of v.terms
 
   abbrev pub learned : Step (Option T) → Me (Option T) (View T E) → ℕ → Me (Option T) (View T E) → Type 0
@@ -48,6 +50,7 @@ module _ {T E F : Type 0} (stands : History E → T → Type 0) (fixed : T → F
     pub same : fixed x ≡ fixed terms.origin.value
     pub mine : calls_of 0 v.seen ≡ v.mine
     pub calls : HaveTheirCalls v.seen v.ended
+    pub parts : HaveTheirParts v.seen v.ended
     pub holds : MadeAtMost terms.holds v.ended
     pub numbers : AreNumbered v.ended
     pub owners : OwnersAreKnown v.seen v.ended

@@ -47,6 +47,12 @@ module _ {E : Type 0} where
   EndedWell log most [] = Unit {0}
   EndedWell log most (e ∷ es) = (calls_of e.number log ≡ e.mine) × (e.holds ≤ most) × EndedWell log most es
 
+module _ {E : Type 0} where
+  -- each ended pass had seen a part of this
+  abbrev pub HaveSeen : History E → List (Ended E) → Type 0
+  HaveSeen seen [] = Unit {0}
+  HaveSeen seen (e ∷ es) = GoesOn e.seen seen × HaveSeen seen es
+
 module _ {T E : Type 0} where
   -- the holds that a pass and those folded into it made
   abbrev pub made : View T E → ℕ
@@ -71,6 +77,8 @@ module _ {T E : Type 0} where
     pub others : v.live ≡ true → v.number ≢ 0 → (v.spare ≡ 0) × (v.ended ≡ [])
     pub spent : v.live ≡ false → (v.seen ≡ []) × (v.turn ≡ Out) × (v.holds ≡ 0)
     pub ended : EndedWell log terms.holds v.ended
+    pub parts : HaveSeen v.seen v.ended
+    pub grew : GoesOn v.before v.seen
     pub inside : (t : ℕ) → v.turn ≡ Inside t → (t ≡ serving) × (v.seen ≡ log)
 
 module _ {T E F : Type 0} (stands : History E → T → Type 0) (fixed : T → F) where

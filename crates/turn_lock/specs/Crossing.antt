@@ -1,5 +1,5 @@
 -- Where a value may go to another thread, so may a pass of its lock, and the lock may be shared. Callers list these lemmas
--- where they start threads.
+-- where they start threads. No clause can say them of every type, so they stand here and not in a law of `src/laws.rt`.
 use denote.RattleType.{RattleType}
 use denote.Param.Send.{IsSend, IsSync, Frees, sendable, part_keyless}
 use denote.Struct.Struct.{Struct}
