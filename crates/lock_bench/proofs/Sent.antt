@@ -4,7 +4,7 @@ use denote.Ref.{NamedLft}
 use denote.Struct.Field.{unit-field}
 use denote.Param.Send.{IsSend, IsSync, sendable}
 use Rattle.std.proofs.Crossing.{crosses}
-use Rattle.turn_lock.proofs.Crosses.{pass_field_send, lock_sync}
+use Rattle.turn_lock.specs.Crossing.{pass_field_send, lock_sync}
 use Rattle.turn_lock.specs.contracts.pass.Seated as pass
 use Rattle.turn_lock.specs.contracts.lock.TurnLock as lock
 use Rattle.lock_bench.specs.contracts.tally.Tally as tally

@@ -1,8 +1,8 @@
 //! Times the history lock: holds that each give an entry, by 1, 2, 4 and 7 threads on one lock and on four.
 //!
 //! It stands on `turn_lock`. Without an argument it makes a few holds and prints nothing, so that what it prints is the
-//! same at each run. `lock_bench HOLDS` lets each thread make that many holds and prints the nanoseconds of one. Only
-//! times are measured: the lock promises none.
+//! same at each run. `lock_bench HOLDS` lets each thread make that many holds and prints the nanoseconds of one, from when
+//! all threads are there to when the last is done. Only times are measured: the lock promises none.
 #![tactic(auto)]
 
 ghost use Rattle.std.specs.Prelude.{◌≤◌};
@@ -31,8 +31,8 @@ fn print_times<R: Threads + Wait + Clock + AllocGlobal + Print + Sync>(
     let floor = two_adds(rt, holds)?;
     println!(rt; "two fetch_adds: {floor} ns")?;
     for threads in COUNTS {
-        let one = one_lock(rt, rt.alloc(), threads, holds)?;
-        let four = four_locks(rt, rt.alloc(), threads, holds)?;
+        let one = one_lock(rt, rt.alloc(), threads, holds, true)?;
+        let four = four_locks(rt, rt.alloc(), threads, holds, true)?;
         println!(rt; "{threads} threads: {one} ns a hold on one lock, {four} ns on four")?;
     }
     Ok(())
@@ -48,8 +48,8 @@ fn main(rt: HostRuntime) -> Result<()> {
         return print_times(&rt, holds);
     }
     for threads in COUNTS {
-        one_lock(&rt, rt.alloc(), threads, 100)?;
-        four_locks(&rt, rt.alloc(), threads, 100)?;
+        one_lock(&rt, rt.alloc(), threads, 100, false)?;
+        four_locks(&rt, rt.alloc(), threads, 100, false)?;
     }
     Ok(())
 }

@@ -4,11 +4,11 @@ ghost use Rattle.turn_lock.specs.Seen.{IsPassOf};
 
 use crate::tally::{Counts, Tally};
 use crate::worker::{Station, Worker};
-use anyhow::{Result, anyhow};
+use anyhow::{Context, Result, anyhow};
 use std::alloc::Global;
 use std::rt::Clock;
-use std::sync::Wait;
 use std::sync::atomic::{AtomicU64, Ordering};
+use std::sync::{Barrier, Wait};
 use std::thread::Threads;
 use std::time::Instant;
 use turn_lock::{Pass, TurnLock, work_all};
@@ -41,6 +41,7 @@ fn each_of(nanos: u128, count: u128) -> u128 {
 // Workers with a station at each lock.
 fn workers_at<'r, 'a, R>(
     rt: &'r R,
+    start: &'r Barrier,
     alloc: Global,
     desks: &mut [Station<'a>],
     threads: u32,
@@ -54,41 +55,56 @@ fn workers_at<'r, 'a, R>(
         }
         workers.push(Worker {
             rt,
+            start,
             stations,
             holds,
+            nanos: None,
         })?;
     }
     Ok(workers)
 }
 
-// The nanoseconds of a hold, where so many threads make so many holds each at these locks in turn.
-fn time_at<'r, 'a, R: Threads + Wait + Clock + Sync>(
-    rt: &'r R,
+// The time of the slowest worker, none where a clock failed.
+fn longest<'r, 'a, R>(workers: &[Worker<'r, 'a, R>]) -> Option<u128> {
+    let mut most = 0;
+    for worker in workers {
+        most = most.max(worker.nanos?);
+    }
+    Some(most)
+}
+
+// The nanoseconds of a hold, where so many threads make so many holds each at these locks in turn. Where they are to start
+// together, each waits for the others, so that the starting of threads isn't timed.
+fn time_at<'a, R: Threads + Wait + Clock + Sync>(
+    rt: &R,
     alloc: Global,
     desks: &mut [Station<'a>],
     threads: u32,
     holds: u64,
+    together: bool,
 ) -> Result<u128> {
-    let mut workers = workers_at(rt, alloc, desks, threads, holds)?;
-    let start = Instant::now(rt)?;
+    let start = Barrier::new(if together { threads as usize } else { 1 });
+    let mut workers = workers_at(rt, &start, alloc, desks, threads, holds)?;
     work_all(rt, workers.as_mut_slice());
-    let nanos = start.elapsed(rt)?.as_nanos();
+    let nanos = longest(workers.as_slice()).context("the clock failed")?;
     Ok(each_of(nanos, u128::from(holds) * u128::from(threads)))
 }
 
-/// The nanoseconds of a hold, where so many threads make so many holds each on one lock.
+/// The nanoseconds of a hold, where so many threads make so many holds each on one lock, all from one moment on where they
+/// are to start together.
 pub fn one_lock<R: Threads + Wait + Clock + Sync>(
     rt: &R,
     alloc: Global,
     threads: u32,
     holds: u64,
+    together: bool,
 ) -> Result<u128>
     requires threads { threads < 64 }
     requires holds { (2 ≤ holds) × (holds ≤ 2 ^ 40) }
 {
     let (lock, first) = fresh(alloc, threads, holds)?;
     let mut desks = [Station::new(&lock, first)];
-    time_at(rt, alloc, &mut desks, threads, holds)
+    time_at(rt, alloc, &mut desks, threads, holds, together)
 }
 
 /// The same on four locks, which each thread holds in turn.
@@ -97,6 +113,7 @@ pub fn four_locks<R: Threads + Wait + Clock + Sync>(
     alloc: Global,
     threads: u32,
     holds: u64,
+    together: bool,
 ) -> Result<u128>
     requires threads { threads < 64 }
     requires holds { (2 ≤ holds) × (holds ≤ 2 ^ 40) }
@@ -111,7 +128,7 @@ pub fn four_locks<R: Threads + Wait + Clock + Sync>(
         Station::new(&south, at_south),
         Station::new(&west, at_west),
     ];
-    time_at(rt, alloc, &mut desks, threads, holds)
+    time_at(rt, alloc, &mut desks, threads, holds, together)
 }
 
 /// The nanoseconds of two sequentially consistent adds to words of one thread: the floor of a hold.

@@ -16,6 +16,7 @@ pub struct Tally {
 }
 
 impl Tally {
+    /// Counts one more visit, of fewer than 2^62.
     pub fn visit(&mut self)
         requires { self.old.counts.value.visits < 2 ^ 62 }
         ensures { self.new.counts.value.visits ≡ self.old.counts.value.visits + 1 }
