@@ -12,9 +12,10 @@ use Rattle.page_base.specs.declared.keys.Why.{Why}
 use Rattle.page_buffer.specs.Buffers.{BufferSeen}
 use Rattle.stripe_core.specs.declared.region.Lane.TheVariants as lane
 use Rattle.stripe_core.specs.declared.region.Region.{Region}
-use Rattle.stripe_core.specs.Parts.{Table, ReadOut, read_of, reads_of, region_seen, place_of}
-use Rattle.stripe_core.specs.Tied.{Tied, read_at}
-use Rattle.stripe_core.specs.Made.{IsFailed}
+use Rattle.stripe_core.specs.Parts.{Table, region_seen, place_of}
+use Rattle.stripe_core.specs.InsideParts.{ReadOut, read_of, reads_of}
+use Rattle.stripe_core.specs.InsideTied.{Tied, read_at}
+use Rattle.stripe_core.specs.InsideMade.{IsFailed}
 use Rattle.stripe_core.proofs.Lanes.{read_is}
 use Rattle.stripe_core.proofs.ReadTies.{KeptFor}
 

@@ -14,7 +14,7 @@ use Rattle.page_buffer.specs.Buffers.{BufferSeen}
 use Rattle.page_model.specs.Core.{Core, Resident, page_at, pick_of, can_leave, dirties, is_dirty, is_home, is_writing}
 use Rattle.page_model.specs.Core as core
 use Rattle.page_model.specs.Residents.{is_in}
-use Rattle.stripe_core.specs.FrameStates.{leaves, pick_at}
+use Rattle.stripe_core.specs.InsideFrameStates.{leaves, pick_at}
 use Rattle.stripe_core.specs.Parts.{Table, page_seen, pages_seen}
 use Rattle.stripe_core.proofs.Keys.{same_self}
 use Rattle.stripe_core.proofs.Looks.{found, page_key}

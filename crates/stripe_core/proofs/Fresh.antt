@@ -26,9 +26,10 @@ use Rattle.page_base.specs.declared.keys.Raise.{Raise}
 use Rattle.stripe_core.specs.declared.config.StripeConfig.{StripeConfig}
 use Rattle.stripe_core.specs.declared.region.Region.{Region}
 use Rattle.stripe_core.specs.Configs.{setup_of, CanMake}
-use Rattle.stripe_core.specs.Made.{no_faults, regions_made, region_made}
-use Rattle.stripe_core.specs.Parts.{Table, ReadOut, page_seen, region_seen, reads_of, core_of}
-use Rattle.stripe_core.specs.Tied.{Tied, IsSized, frame_in, reserved_key, read_at}
+use Rattle.stripe_core.specs.InsideMade.{no_faults, regions_made, region_made}
+use Rattle.stripe_core.specs.Parts.{Table, page_seen, region_seen, core_of}
+use Rattle.stripe_core.specs.InsideParts.{ReadOut, reads_of}
+use Rattle.stripe_core.specs.InsideTied.{Tied, IsSized, frame_in, reserved_key, read_at}
 use Rattle.stripe_core.proofs.Counted.{count_cons}
 
 -- ---- nothing is resident, kept or out
@@ -127,10 +128,11 @@ fresh_has s k e =
     }
 
 -- the setup fits, where each lane's pages are whole
-pub setup_fits : {S : Type 0} (seen : S → LaneSeen) (c : StripeConfig) (lanes : List S) → CanMake c (map seen lanes) → 1 ≤ quota (setup_of c (map seen lanes)) → 64 ≤ c.layout.page_size
+pub setup_fits : {S : Type 0} (seen : S → LaneSeen) (c : StripeConfig) (lanes : List S) → CanMake c (map seen lanes) → 1 ≤ quota (setup_of c (map seen lanes)) → 64 ≤ c.layout.page_size → c.layout.page_size ≤ 1048576
     → ((s : S) (page : ℕ) → IfSome (told_at (seen s).told page) (λ bytes. length bytes ≡ (seen s).origin.page_size)) → Fits (setup_of c (map seen lanes))
-setup_fits {S} seen c lanes can frames size whole = record {
+setup_fits {S} seen c lanes can frames size small whole = record {
   some_bytes = omega arith;
+  few_bytes = small;
   some_frame = omega arith;
   some_fault = omega (arith, can.some_fault);
   marks = can.marks;

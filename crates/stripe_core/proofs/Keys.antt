@@ -10,7 +10,7 @@ use Rattle.soft_mmu.specs.Entries.{entry_of, pages_of, with_entry, HasPage}
 use Rattle.page_buffer.specs.Frames.{FrameSeen, Free, resident_key}
 use Rattle.page_buffer.specs.Buffers.{BufferSeen, frame_of, with_frame}
 use Rattle.stripe_core.specs.Parts.{Table}
-use Rattle.stripe_core.specs.Tied.{reserved_key}
+use Rattle.stripe_core.specs.InsideTied.{reserved_key}
 
 pub same-true : (a b : Key) → same a b ≡ true → a ≡ b
 same-true a b e =

@@ -14,8 +14,9 @@ use Rattle.page_model.specs.Steps.{on_region, put_back, placed}
 use Rattle.stripe_core.specs.declared.region.Lane.{Lane}
 use Rattle.stripe_core.specs.declared.region.Lane.TheVariants as lane
 use Rattle.stripe_core.specs.declared.region.Region.{Region}
-use Rattle.stripe_core.specs.Parts.{ReadOut, place_of, region_seen, read_of, reads_of}
-use Rattle.stripe_core.specs.Tied.{read_at}
+use Rattle.stripe_core.specs.Parts.{place_of, region_seen}
+use Rattle.stripe_core.specs.InsideParts.{ReadOut, read_of, reads_of}
+use Rattle.stripe_core.specs.InsideTied.{read_at}
 use Rattle.page_model.specs.Readers.{IsReadOut}
 use Rattle.page_model.specs.Trips.{Trip}
 use Rattle.stripe_core.proofs.Keys.{same-true, same_self}

@@ -30,8 +30,9 @@ use Rattle.page_model.specs.declared.entry.HintAnswer.TheVariants as answer
 use Rattle.page_model.specs.Steps.{hinted}
 use Rattle.stripe_core.specs.declared.answers.Raise.TheVariants as raise
 use Rattle.stripe_core.specs.Answers.{load_look, save_look, raise_answer, GivesBytes}
-use Rattle.stripe_core.specs.Parts.{Table, ReadOut, page_in, page_seen, pages_seen, region_seen, core_of}
-use Rattle.stripe_core.specs.Tied.{Tied, frame_in}
+use Rattle.stripe_core.specs.Parts.{Table, page_in, page_seen, pages_seen, region_seen, core_of}
+use Rattle.stripe_core.specs.InsideParts.{ReadOut}
+use Rattle.stripe_core.specs.InsideTied.{Tied, frame_in}
 use Rattle.stripe_core.proofs.Keys.{same-true, same_self}
 
 pub page_key : (b : BufferSeen) (k : Key) (e : PageEntry) → (page_in b k e).key ≡ k

@@ -9,7 +9,7 @@ use Rattle.std.proofs.Common.{List, None, Option, Some, slice_get, map, Vec, [],
 use Rattle.std.proofs.lemmas.List.{append-nil, reverse-append, reverse-reverse}
 use Rattle.std.specs.declared.alloc.Global.{Global}
 use Rattle.stripe_core.specs.declared.region.Region.{Region}
-use Rattle.stripe_core.specs.Made.{region_made, regions_made}
+use Rattle.stripe_core.specs.InsideMade.{region_made, regions_made}
 
 -- the regions so far, reversed, are those of the lanes that have left
 pub record MadeSoFar {S : Type 0} (all now : List S) (given left : List (Vec ℕ Global)) (regions : List (Region S)) : Type 0 where

@@ -11,7 +11,7 @@ use Rattle.page_buffer.specs.Buffers.{BufferSeen}
 use Rattle.page_model.specs.Core.{Resident, protects, dirties}
 use Rattle.page_model.specs.Steps.{on_page}
 use Rattle.stripe_core.specs.Parts.{Table, page_in, page_seen, pages_seen}
-use Rattle.stripe_core.specs.Tied.{frame_in}
+use Rattle.stripe_core.specs.InsideTied.{frame_in}
 use Rattle.stripe_core.proofs.Keys.{entry_set, entry_kept, same-true, same_self}
 use Rattle.stripe_core.proofs.Looks.{at_entry}
 use Rattle.stripe_core.proofs.Ties.{SameFrames, pages_changed, one_changes}

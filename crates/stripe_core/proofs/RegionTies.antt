@@ -8,7 +8,8 @@ use Rattle.page_model.specs.Core as core
 use Rattle.stripe_core.specs.declared.region.Lane.{Lane}
 use Rattle.stripe_core.specs.declared.region.Lane.TheVariants as lane
 use Rattle.stripe_core.specs.declared.region.Region.{Region}
-use Rattle.stripe_core.specs.Parts.{ReadOut, place_of, read_of, reads_of}
+use Rattle.stripe_core.specs.Parts.{place_of}
+use Rattle.stripe_core.specs.InsideParts.{ReadOut, read_of, reads_of}
 
 pub reads_kept : {S : Type 0} (gs : List (Region S)) (r : ℕ) (g new : Region S) → slice_get gs r ≡ Some g → read_of new.lane ≡ read_of g.lane → reads_of (set gs r new) ≡ reads_of gs
 reads_kept {S} gs r g new is e =

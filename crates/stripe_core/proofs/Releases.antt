@@ -13,8 +13,9 @@ use Rattle.page_buffer.specs.Buffers.{BufferSeen, frame_of, with_frame, released
 use Rattle.page_model.specs.Core.{Resident}
 use Rattle.page_model.specs.Residents.{is_in}
 use Rattle.page_model.specs.Steps.{without_page}
-use Rattle.stripe_core.specs.Parts.{Table, ReadOut, page_in, page_seen, pages_seen}
-use Rattle.stripe_core.specs.Tied.{Tied, frame_in, reserved_key}
+use Rattle.stripe_core.specs.Parts.{Table, page_in, page_seen, pages_seen}
+use Rattle.stripe_core.specs.InsideParts.{ReadOut}
+use Rattle.stripe_core.specs.InsideTied.{Tied, frame_in, reserved_key}
 use Rattle.stripe_core.proofs.Counted.{count_set, one_if}
 use Rattle.stripe_core.proofs.Keys.{same-true, same_self, not_same, entry_set, entry_kept, frame_set, frame_kept, resident_within}
 use Rattle.stripe_core.proofs.Looks.{page_key}

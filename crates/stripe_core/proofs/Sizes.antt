@@ -17,7 +17,7 @@ use Rattle.stripe_core.specs.declared.config.StripeConfig.{StripeConfig}
 use Rattle.stripe_core.specs.declared.region.Region.{Region}
 use Rattle.stripe_core.specs.Configs.{setup_of}
 use Rattle.stripe_core.specs.Parts.{Table}
-use Rattle.stripe_core.specs.Tied.{IsSized}
+use Rattle.stripe_core.specs.InsideTied.{IsSized}
 use Rattle.stripe_core.proofs.Keys.{page_kept}
 
 -- after a change of frames

@@ -18,13 +18,14 @@ use Rattle.soft_mmu.specs.Entries.{entry_of}
 use Rattle.soft_mmu.specs.declared.entry.PageEntry.TheVariants.{Absent}
 use Rattle.std.proofs.lemmas.Bool.{or_from}
 use Rattle.std.proofs.lemmas.List.{length-map}
-use Rattle.stripe_core.specs.Tied.{Tied, frame_in, reserved_key, read_at}
+use Rattle.stripe_core.specs.InsideTied.{Tied, frame_in, reserved_key, read_at}
 use Rattle.stripe_core.proofs.Keys.{not_same}
 use Rattle.stripe_core.specs.declared.region.Lane.{Lane}
 use Rattle.stripe_core.specs.declared.region.Lane.TheVariants as lane
 use Rattle.stripe_core.specs.declared.region.Region.{Region}
 use Rattle.stripe_core.proofs.Counted.{count_cons}
-use Rattle.stripe_core.specs.Parts.{Table, ReadOut, page_seen, pages_seen, region_seen, reads_of, read_of, place_of}
+use Rattle.stripe_core.specs.Parts.{Table, page_seen, pages_seen, region_seen, place_of}
+use Rattle.stripe_core.specs.InsideParts.{ReadOut, reads_of, read_of}
 
 pub pending_is : (raises : List Raise) (key : Key) → is_some (pending_why raises key) ≡ is_waiting key raises
 pending_is [] key = refl

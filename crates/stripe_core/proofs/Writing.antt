@@ -18,21 +18,20 @@ use Rattle.page_model.specs.declared.seen.Counts.{Counts}
 use Rattle.page_model.specs.Core.{Core, RegionSeen, Writing, place_passes}
 use Rattle.page_model.specs.Core as core
 use Rattle.page_model.specs.InFlight.{WritesTaken, before_start}
-use Rattle.page_model.specs.Readers.{IsWriteOut}
+use Rattle.page_model.specs.Readers.{IsWriteOut, PagesShow}
 use Rattle.page_model.specs.Setups.{Setup}
 use Rattle.page_model.specs.Stands.{StandsFor}
 use Rattle.page_model.specs.Steps.{on_region, placed}
 use Rattle.page_model.specs.Trips.{Trip}
-use Rattle.page_model.proofs.Agreements.{page_seen}
 use Rattle.stripe_core.specs.declared.region.Region.{Region}
 use Rattle.stripe_core.specs.Copies.{IsCopyOf}
 use Rattle.stripe_core.specs.Parts.{Table, core_of, region_seen}
 use Rattle.stripe_core.proofs.Keys.{same_self}
 
 -- a copy that is taken as a write starts is what the page holds there
-pub copy_taken : (h : History Entry) (o : ℕ) (c : Core) (k : Key) (why : Cause) (bytes : List ℕ) → StandsFor h c → IsCopyOf c k bytes → WritesTaken c.setup ((o, StartWrite k why) ∷ h) k bytes
-copy_taken h o c k why bytes st copy =
-    let seen = page_seen h c k copy.there st copy.is in
+pub copy_taken : (show : PagesShow) (h : History Entry) (o : ℕ) (c : Core) (k : Key) (why : Cause) (bytes : List ℕ) → StandsFor h c → IsCopyOf c k bytes → WritesTaken c.setup ((o, StartWrite k why) ∷ h) k bytes
+copy_taken show h o c k why bytes st copy =
+    let seen = show.found h c k copy.there st copy.is in
     let here : before_start ((o, StartWrite k why) ∷ h) k.region ≡ h = rw (eq-eqb k.region k.region refl) refl in
     rw (here, copy.same_bytes) seen.bytes
 

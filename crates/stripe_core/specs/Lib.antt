@@ -1,8 +1,10 @@
 pub mod Answers
 pub mod Configs
-pub mod Made
+pub mod InsideMade
 pub mod Parts
-pub mod Tied
+pub mod InsideParts
+pub mod InsideTied
 pub mod Trips
 pub mod Copies
 pub mod FrameStates
+pub mod InsideFrameStates

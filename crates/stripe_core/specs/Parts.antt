@@ -1,5 +1,5 @@
 -- How the parts of a stripe make the data that contracts see. Frames and their numbers are seen here alone.
-use Rattle.std.specs.Prelude.{ℕ, Bool, false, List, [], map, Option, Some, None}
+use Rattle.std.specs.Prelude.{ℕ, Bool, false, List, [], map}
 use Rattle.page_base.specs.declared.keys.Key.{Key}
 use Rattle.page_base.specs.declared.keys.Raise.{Raise}
 use Rattle.page_base.specs.Lanes.{LaneSeen}
@@ -48,17 +48,3 @@ core_of seen setup t b queue gs evicting counts events = record {
   counts = counts;
   events = events;
 }
-
--- a read that is out, and the frame that is kept for its page
-pub record ReadOut : Type 0 where
-  pub key : Key
-  pub frame : ℕ
-
-abbrev pub read_of : {S : Type 0} → Lane S → Option ReadOut
-read_of (lane.Home s) = None
-read_of (lane.Reading key at why frame) = Some (record { key = key; frame = frame })
-read_of (lane.Writing key at) = None
-
--- by region: the read that is out
-abbrev pub reads_of : {S : Type 0} → List (Region S) → List (Option ReadOut)
-reads_of gs = map (λ g. read_of g.lane) gs

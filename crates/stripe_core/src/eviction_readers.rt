@@ -4,7 +4,8 @@ ghost use Rattle.std.specs.Prelude.{◌≡◌, ◌<◌, ◌==◌, ◌&&◌, ◌|
 ghost use Rattle.page_model.specs.Core as core;
 ghost use Rattle.page_model.specs.Setups.{quota, regions};
 ghost use Rattle.fault_queue.specs.Queues.{raise_of};
-ghost use Rattle.stripe_core.specs.FrameStates.{keys_of, leaves, pick_at, frame_state, state_of};
+ghost use Rattle.stripe_core.specs.FrameStates.{frame_state, state_of};
+ghost use Rattle.stripe_core.specs.InsideFrameStates.{keys_of, leaves, pick_at};
 
 use crate::answers::FrameState;
 use crate::stripe::Stripe;

@@ -70,6 +70,7 @@ impl<S: Store> Stripe<S> {
         ensures key { next self.old ≡ serve.Drop result }
         ensures step { self.new ≡ step.drop_raise self.old result }
         ensures fixed { self.new.setup ≡ self.old.setup }
+        ensures page { has_page self.old.setup result ≡ true }
         ensures stands { (h : History Entry) (o : ℕ) → StandsFor h self.old → StandsFor ((o, entry.Dropped result) ∷ h) self.new }
     {
         service_knows();

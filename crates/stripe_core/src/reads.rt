@@ -6,9 +6,9 @@ ghost use Rattle.page_model.specs.declared.entry.Entry.{Entry};
 ghost use Rattle.page_model.specs.declared.entry.Entry.TheVariants as entry;
 ghost use Rattle.page_model.specs.declared.seen.Next.TheVariants as serve;
 ghost use Rattle.page_model.specs.Core.{next};
-ghost use Rattle.page_model.specs.Faults.{is_write};
+ghost use Rattle.page_model.specs.Faults.{is_write, last_why};
 ghost use Rattle.stripe_core.specs.declared.region.Region.{Region};
-ghost use Rattle.stripe_core.specs.Made.{IsFailed};
+ghost use Rattle.stripe_core.specs.InsideMade.{IsFailed};
 ghost use Rattle.page_model.specs.Core as core;
 ghost use Rattle.page_model.specs.Readers.{IsHere, LaneHas};
 ghost use Rattle.page_model.specs.Setups.{has_page};
@@ -22,7 +22,7 @@ use crate::trip::Trip;
 use page_base::{Key, Why};
 use page_model::Next;
 use page_model::events::{
-    filled_stands, read_failed_stands, service_knows, start_read_stands, starts_open,
+    filled_stands, read_failed_stands, service_knows, start_read_stands, starts_open, whys_agree,
 };
 use std::mem;
 use std::snapshot::Snapshot;
@@ -65,13 +65,14 @@ impl<S: Store> Stripe<S> {
         }
     }
 
-    fn fill_step(&mut self, key: Key, lane: S, bytes: &[u8])
+    fn fill_step(&mut self, key: Key, lane: S, bytes: &[u8]) -> Why
         requires few { self.old.events < 2 ^ 62 }
         requires page { has_page self.old.setup key ≡ true }
         requires absent { core.is_present self.old key ≡ false }
         requires reading { core.is_reading self.old key ≡ true }
         requires size { length bytes.now ≡ self.old.setup.page_size }
         ensures step { self.new ≡ step.filled self.old key bytes.now (S.seen lane) }
+        ensures why { result ≡ core.why_out self.old key }
     {
         let read = swap_lane(&mut self.regions, key.region, Lane::Home(lane)).into_read(key);
         let writes = is_write(read.why);
@@ -80,6 +81,7 @@ impl<S: Store> Stripe<S> {
         self.evicting = evicts(self.buffer.resident(), self.marks.on, self.evicting);
         self.counts.fills += 1;
         self.events += 1;
+        read.why
     }
 
     fn fail_step(&mut self, key: Key, lane: S)
@@ -154,18 +156,20 @@ impl<S: Store> Stripe<S> {
     }
 
     /// Ends a read well: the page is resident, the newest, with these bytes. It is open to stores and dirty where it was
-    /// raised to be stored to, else protected and clean.
-    pub fn filled(&mut self, trip: Trip<S>, bytes: &[u8])
+    /// raised to be stored to, else protected and clean. It answers why the page was raised.
+    pub fn filled(&mut self, trip: Trip<S>, bytes: &[u8]) -> Why
         requires few { self.old.events < 2 ^ 62 }
         requires open_read { (h : History Entry) × (o : ℕ) × StandsFor h self.old × IsOpenRead self.old.setup h o trip.start }
         requires same { SameLane trip.start.taken trip.lane }
         requires size { length bytes.now ≡ self.old.setup.page_size }
         requires holds { HoldsPage trip.start.taken trip.start.key.page bytes.now }
+        ensures why { (h : History Entry) → StandsFor h self.old → result ≡ last_why h trip.start.key }
         ensures step { self.new ≡ step.filled self.old trip.start.key bytes.now trip.lane }
         ensures fixed { self.new.setup ≡ self.old.setup }
         ensures stands { (h : History Entry) (o : ℕ) → StandsFor h self.old → IsOpenRead self.old.setup h o trip.start → StandsFor ((o, entry.Filled trip.start.key) ∷ h) self.new }
     {
         service_knows();
+        whys_agree();
         filled_stands();
         let Trip {
             key,
@@ -173,7 +177,7 @@ impl<S: Store> Stripe<S> {
             lane,
             taken: _,
         } = trip;
-        self.fill_step(key, lane, bytes);
+        self.fill_step(key, lane, bytes)
     }
 
     /// Ends a read that failed: the page is missing as before, its fault is served, and the lane's count is its read fault.

@@ -5,7 +5,7 @@ ghost use Rattle.page_buffer.specs.Frames.{Free};
 ghost use Rattle.page_model.specs.Setups.{quota};
 ghost use Rattle.soft_mmu.specs.Entries.{no_pages};
 ghost use Rattle.stripe_core.specs.Configs.{setup_of, CanMake};
-ghost use Rattle.stripe_core.specs.Made.{regions_made, no_faults};
+ghost use Rattle.stripe_core.specs.InsideMade.{regions_made, no_faults};
 ghost use Rattle.page_base.specs.Lanes.{LaneSeen};
 
 use crate::config::StripeConfig;

@@ -7,7 +7,7 @@
 //! | dirty and open | yes | no | yes | `filled` for a store; `open_page` |
 //! | dirty and protected | yes | yes | yes | `start_write`, and `write_failed` after it |
 //!
-//! What must stay true when this file is changed: table, frames and reads name one another (`specs/Tied.antt`). The paging
+//! What must stay true when this file is changed: table, frames and reads name one another (`specs/InsideTied.antt`). The paging
 //! itself, which entries may follow and what the bits mean, is `page_model`'s; here stands only what a change of
 //! representation would touch.
 ghost use Rattle.std.specs.Prelude.{◌≡◌, ◌<◌, ℕ, [], map, true, slice_get, Some, IfOk, IfErr};
@@ -51,8 +51,9 @@ impl<S: Store> Model for Stripe<S> {
     ghost Value = { Core };
 
     ghost use Rattle.stripe_core.specs.Configs.{setup_of};
-    ghost use Rattle.stripe_core.specs.Parts.{core_of, reads_of};
-    ghost use Rattle.stripe_core.specs.Tied.{Tied, IsSized, CountsWithin};
+    ghost use Rattle.stripe_core.specs.Parts.{core_of};
+    ghost use Rattle.stripe_core.specs.InsideParts.{reads_of};
+    ghost use Rattle.stripe_core.specs.InsideTied.{Tied, IsSized, CountsWithin};
 
     ghost view = { λ s. core_of S.seen (setup_of s.config.value (map S.seen s.lanes.value.items)) s.table s.buffer s.queue.raises s.regions.items s.evicting s.counts s.events };
 

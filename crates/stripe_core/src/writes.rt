@@ -11,7 +11,7 @@ ghost use Rattle.page_model.specs.Core as core;
 ghost use Rattle.page_model.specs.Core.{Resident, Home, Writing};
 ghost use Rattle.page_model.specs.Events.{CanStartWrite};
 ghost use Rattle.page_model.specs.InFlight.{WritesTaken};
-ghost use Rattle.page_model.specs.Readers.{IsHere};
+ghost use Rattle.page_model.specs.Readers.{IsHere, LaneHas};
 ghost use Rattle.page_model.specs.Setups.{has_page};
 ghost use Rattle.page_model.specs.Stands.{StandsFor};
 ghost use Rattle.page_model.specs.Steps as step;
@@ -25,7 +25,7 @@ use crate::trip::Trip;
 use page_base::Key;
 use page_model::Cause;
 use page_model::events::{
-    service_knows, start_write_stands, starts_open, write_failed_stands, written_stands,
+    pages_show, service_knows, start_write_stands, starts_open, write_failed_stands, written_stands,
 };
 use soft_mmu::{Found, Wants};
 use std::snapshot::Snapshot;
@@ -140,13 +140,16 @@ impl<S: Store> Stripe<S> {
         ensures at { result.start.at ≡ self.old.events }
         ensures here { IsHere self.old key.region result.start.taken }
         ensures lane { result.lane ≡ result.start.taken }
+        ensures serves { (h : History Entry) → StandsFor h self.old → LaneHas self.old.setup key result.lane }
         ensures copy { IsCopyOf self.old key scratch.new }
         ensures stands { (h : History Entry) (o : ℕ) → StandsFor h self.old → StandsFor ((o, entry.StartWrite key why) ∷ h) self.new }
         ensures open_write { (h : History Entry) (o : ℕ) → StandsFor h self.old → IsOpenWrite self.old.setup ((o, entry.StartWrite key why) ∷ h) o result.start }
         ensures taken { (h : History Entry) (o : ℕ) → StandsFor h self.old → WritesTaken self.old.setup ((o, entry.StartWrite key why) ∷ h) key scratch.new }
     {
+        service_knows();
         start_write_stands();
         starts_open();
+        pages_show();
         self.take_copy(key, scratch);
         self.send_lane(key)
     }

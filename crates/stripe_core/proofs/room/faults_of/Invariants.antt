@@ -1,6 +1,6 @@
 use Rattle.std.proofs.Common.{◌≡◌, map, take, Vec, ℕ}
 use Rattle.std.specs.declared.alloc.Global.{Global}
-use Rattle.stripe_core.specs.Made.{no_faults}
+use Rattle.stripe_core.specs.InsideMade.{no_faults}
 use Rattle.stripe_core.proofs.room.faults_of.Given as goal
 
 abbrev pub invariant-loop-shape : goal.invariant-loop-shape

@@ -2,7 +2,7 @@ use Rattle.std.proofs.Common.{true, ◌+◌, ◌<◌, Some, ap, arith, length, l
 use Rattle.std.proofs.lemmas.Option.{slice_get_read}
 use Rattle.page_model.specs.Core.{Core, RegionSeen}
 use Rattle.page_model.specs.Setups.{regions}
-use Rattle.stripe_core.specs.Tied.{Tied, CountsWithin}
+use Rattle.stripe_core.specs.InsideTied.{Tied, CountsWithin}
 use Rattle.stripe_core.proofs.Lanes.{changed_seen}
 use Rattle.stripe_core.proofs.RegionTies.{reads_kept}
 use Rattle.stripe_core.proofs.Sizes.{rezoned}

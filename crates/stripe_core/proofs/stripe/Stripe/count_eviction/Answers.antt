@@ -4,7 +4,7 @@ use Rattle.page_base.specs.Pages.{off_mark}
 use Rattle.page_model.specs.Setups.{quota}
 use Rattle.stripe_core.specs.Configs.{setup_of}
 use Rattle.stripe_core.specs.Parts.{page_seen, pages_seen}
-use Rattle.stripe_core.specs.Tied.{CountsWithin}
+use Rattle.stripe_core.specs.InsideTied.{CountsWithin}
 use Rattle.stripe_core.proofs.stripe.Stripe.count_eviction.Goals as goal
 
 pub invariant_of-self : goal.invariant_of-self

@@ -1,6 +1,6 @@
 use Rattle.std.proofs.Common.{ap, arith, refl, ◌+◌, ◌∙◌}
 use Rattle.page_model.specs.Core.{Core, is_pending}
-use Rattle.stripe_core.specs.Tied.{CountsWithin}
+use Rattle.stripe_core.specs.InsideTied.{CountsWithin}
 use Rattle.stripe_core.proofs.Sizes.{requeued, all_others}
 use Rattle.stripe_core.proofs.Waiting.{pending_is}
 use Rattle.stripe_core.proofs.stripe.Stripe.drop_step.Goals as goal

@@ -11,8 +11,9 @@ use Rattle.stripe_core.proofs.Cores.{core_fail}
 use Rattle.stripe_core.specs.declared.region.Lane.TheVariants as lane
 use Rattle.stripe_core.specs.declared.region.Region.{Region}
 use Rattle.stripe_core.specs.Configs.{setup_of}
-use Rattle.stripe_core.specs.Parts.{reads_of, region_seen, place_of, read_of}
-use Rattle.stripe_core.specs.Tied.{Tied, IsSized, CountsWithin, read_at}
+use Rattle.stripe_core.specs.Parts.{region_seen, place_of}
+use Rattle.stripe_core.specs.InsideParts.{reads_of, read_of}
+use Rattle.stripe_core.specs.InsideTied.{Tied, IsSized, CountsWithin, read_at}
 use Rattle.stripe_core.proofs.Ended.{ended, failed_seen, page_within}
 use Rattle.stripe_core.proofs.Lanes.{passing, changed_seen, reads_changed}
 use Rattle.stripe_core.proofs.ReadTies.{is_kept, fail_tied, pages_kept}

@@ -20,8 +20,9 @@ use Rattle.stripe_core.specs.Parts.{core_of, pages_seen}
 use Rattle.stripe_core.proofs.Cores.{core_fill, page_made, why_of_read}
 use Rattle.stripe_core.specs.declared.region.Lane.TheVariants as lane
 use Rattle.stripe_core.specs.declared.region.Region.{Region}
-use Rattle.stripe_core.specs.Parts.{reads_of, region_seen, place_of, read_of, page_seen}
-use Rattle.stripe_core.specs.Tied.{Tied, IsSized, CountsWithin, read_at}
+use Rattle.stripe_core.specs.Parts.{region_seen, place_of, page_seen}
+use Rattle.stripe_core.specs.InsideParts.{reads_of, read_of}
+use Rattle.stripe_core.specs.InsideTied.{Tied, IsSized, CountsWithin, read_at}
 use Rattle.stripe_core.proofs.Lanes.{Passing, passing, changed_seen, reads_changed, read_is}
 use Rattle.stripe_core.proofs.Looks.{at_now, absent_entry}
 use Rattle.stripe_core.proofs.ReadTies.{KeptFor, is_kept, fill_tied, pages_filled, filled_with, filled_is}
@@ -94,4 +95,7 @@ returns g c =
     c.evicts-self-inside.ensures.exact ∙ (ap (λ n. nat_le n c.resident.result || s.evicting) c.self.invariant.1.on ∙ ap (λ n. nat_le (on_mark (frames_held v) setup.high) n || s.evicting) count) in
     let eq = core_fill g.S.Store.seen setup s.table (with_entry s.table c.args.key (Present (not w) w f)) s.buffer (filled_with s.buffer f c.args.key c.args.bytes.now) s.queue.raises s.regions.items (slice_set s.regions.items r new) s.evicting c.evicts-self-inside.result s.counts s.events c.args.key c.args.bytes.now (g.S.Store.seen c.args.lane) pages' regions mark in
     let now_filled = c.fill.ensures.filled ∙ filled_is s.buffer f c.args.key c.args.bytes.now is_reserved in
-    record { step = rw (c.install.ensures.entry, now_filled, c.swap_lane.ensures.regions out.region out.is) (eq ∙ ap (λ (x : Core). step.filled x c.args.key c.args.bytes.now (g.S.Store.seen c.args.lane)) c.self.view_is) }
+    record {
+      step = rw (c.install.ensures.entry, now_filled, c.swap_lane.ensures.regions out.region out.is) (eq ∙ ap (λ (x : Core). step.filled x c.args.key c.args.bytes.now (g.S.Store.seen c.args.lane)) c.self.view_is);
+      why = sym why ∙ ap (λ (x : Core). why_out x c.args.key) c.self.view_is;
+    }

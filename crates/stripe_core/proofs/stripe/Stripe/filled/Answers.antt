@@ -1,6 +1,6 @@
 use Rattle.std.proofs.Common.{◌≡◌, ◌∙◌, ap, sym, true, false, subst}
 use Rattle.page_base.specs.declared.keys.Key.{Key}
-use Rattle.page_model.specs.Core.{Core, is_present, is_reading}
+use Rattle.page_model.specs.Core.{Core, is_present, is_reading, why_out}
 use Rattle.page_model.specs.Setups.{has_page}
 use Rattle.page_model.specs.Steps as step
 use Rattle.stripe_core.specs.Trips.{TripSeen}
@@ -24,6 +24,14 @@ fill_step-requires-clause-reading g c =
     let out = c.service_knows.ensures.read_out c.requires.open_read.0 c.requires.open_read.1 c.args.self.now c.args.trip.start c.requires.open_read.2 c.requires.open_read.3 in
     let P : Key → Type 0 = λ k. is_reading c.args.self.now k ≡ true in
     subst P (sym (ap (λ (t : TripSeen). t.start.key) c.trip.view_is)) (is_read_out c.args.self.now c.args.trip.start out)
+
+pub returns-clause-why : goal.returns-clause-why
+returns-clause-why g c = λ h s.
+    let out = c.service_knows.ensures.read_out c.requires.open_read.0 c.requires.open_read.1 c.args.self.now c.args.trip.start c.requires.open_read.2 c.requires.open_read.3 in
+    let key = c.args.trip.start.key in
+    c.fill_step.ensures.why
+    ∙ ap (λ (t : TripSeen). why_out c.args.self.now t.start.key) c.trip.view_is
+    ∙ c.whys_agree.ensures.out h c.args.self.now key s (is_read_out c.args.self.now c.args.trip.start out)
 
 pub returns-clause-step : goal.returns-clause-step
 returns-clause-step g c = c.fill_step.ensures.step ∙ ap (λ (t : TripSeen). step.filled c.args.self.now t.start.key c.args.bytes.now t.lane) c.trip.view_is

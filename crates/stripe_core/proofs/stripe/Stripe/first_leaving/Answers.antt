@@ -2,7 +2,7 @@ use Rattle.std.proofs.Common.{ap, false, true, ◌≡◌}
 use Rattle.page_base.specs.declared.keys.Key.{Key}
 use Rattle.soft_mmu.specs.Entries.{entry_of}
 use Rattle.page_model.specs.Core.{Core, can_leave}
-use Rattle.stripe_core.specs.FrameStates.{leaves}
+use Rattle.stripe_core.specs.InsideFrameStates.{leaves}
 use Rattle.stripe_core.specs.Parts.{page_seen}
 use Rattle.stripe_core.proofs.Finds.{contained, held_present, found_present, picks_seen, leaves_agree}
 use Rattle.stripe_core.proofs.Looks.{page_key}

@@ -6,7 +6,7 @@ use Rattle.page_buffer.specs.Buffers.{released}
 use Rattle.page_buffer.specs.Frames.{Free}
 use Rattle.page_model.specs.Core.{Core}
 use Rattle.page_model.specs.Setups.{has_page}
-use Rattle.stripe_core.specs.Tied.{frame_in}
+use Rattle.stripe_core.specs.InsideTied.{frame_in}
 use Rattle.stripe_core.proofs.Looks.{at_now, hit_held, holds_page, is_held}
 use Rattle.stripe_core.proofs.Rebits.{present_is}
 use Rattle.stripe_core.proofs.Releases.{release_tied, pages_released}

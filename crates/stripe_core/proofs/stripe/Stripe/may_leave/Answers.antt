@@ -1,6 +1,6 @@
 use Rattle.std.proofs.Common.{ap, not, refl, ◌&&◌, ◌||◌, ◌∙◌, ◌≡◌}
 use Rattle.page_model.specs.declared.seen.Pick.{Pick}
-use Rattle.stripe_core.specs.FrameStates.{leaves}
+use Rattle.stripe_core.specs.InsideFrameStates.{leaves}
 use Rattle.stripe_core.proofs.stripe.Stripe.may_leave.Goals as goal
 
 pub returns : goal.returns

@@ -7,8 +7,8 @@ use Rattle.page_model.specs.Core.{Core}
 use Rattle.page_model.specs.Setups.{quota}
 use Rattle.page_model.specs.Stands.{StandsFor}
 use Rattle.stripe_core.specs.Configs.{setup_of}
-use Rattle.stripe_core.specs.Made.{regions_made}
-use Rattle.stripe_core.specs.Tied.{CountsWithin}
+use Rattle.stripe_core.specs.InsideMade.{regions_made}
+use Rattle.stripe_core.specs.InsideTied.{CountsWithin}
 use Rattle.stripe_core.proofs.Fresh.{core_fresh, faults_length, fresh_sized, fresh_tied, made_length, setup_fits}
 use Rattle.stripe_core.proofs.stripe.Stripe.new.Goals as goal
 
@@ -50,6 +50,6 @@ returns-clause-stands g c =
     let config = c.args.config.now in
     let setup = setup_of config (map g.S.Store.seen c.args.lanes.items) in
     let some : 1 ≤ quota setup = let q : c.quota.result ≡ quota setup = c.quota.ensures.quota in omega (arith, q, c.quota.ensures.some) in
-    let fits = setup_fits g.S.Store.seen config c.args.lanes.items c.requires.can some config.layout.large_pages (λ s page. g.met.S.Store.whole_pages s page) in
+    let fits = setup_fits g.S.Store.seen config c.args.lanes.items c.requires.can some config.layout.large_pages config.layout.small_pages (λ s page. g.met.S.Store.whole_pages s page) in
     let P : Core → Type 0 = λ v. StandsFor [] v in
     subst P (sym (returns-clause-fresh g c)) (c.fresh_stands.ensures setup fits)

@@ -2,7 +2,7 @@ use Rattle.std.proofs.Common.{true, false, ap, arith, refl, sym, ◌≡◌, ◌+
 use Rattle.soft_mmu.specs.Entries.{entry_of, with_entry, opened, HasPage}
 use Rattle.page_model.specs.Core.{Core, Resident, is_pending, protects}
 use Rattle.page_model.specs.Setups.{has_page}
-use Rattle.stripe_core.specs.Tied.{CountsWithin}
+use Rattle.stripe_core.specs.InsideTied.{CountsWithin}
 use Rattle.stripe_core.proofs.Looks.{at_now}
 use Rattle.stripe_core.proofs.Rebits.{entry_same, entry_changes, opened_frame, opened_page, guarded_is}
 use Rattle.stripe_core.proofs.Sizes.{requeued, retabled, all_others}

@@ -3,7 +3,7 @@ use Rattle.page_base.specs.declared.keys.Key.{Key}
 use Rattle.page_base.specs.declared.keys.Raise.{Raise}
 use Rattle.page_model.specs.Core as core
 use Rattle.fault_queue.specs.Queues.{raise_of}
-use Rattle.stripe_core.specs.FrameStates.{keys_of}
+use Rattle.stripe_core.specs.InsideFrameStates.{keys_of}
 use Rattle.stripe_core.proofs.Firsts.{found_any, mapped_some}
 use Rattle.stripe_core.proofs.stripe.Stripe.quiet.Goals as goal
 

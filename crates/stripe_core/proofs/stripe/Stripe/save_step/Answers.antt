@@ -5,7 +5,7 @@ use Rattle.page_buffer.specs.Buffers.{frame_of}
 use Rattle.page_buffer.specs.Frames.{bytes_of}
 use Rattle.page_model.specs.Core.{Core, page_at, is_closing}
 use Rattle.stripe_core.proofs.Looks.{at_entry, page_is, hit_open, missing_absent, protected_held, holds_page, is_held, save_hit, save_miss, save_protected}
-use Rattle.stripe_core.specs.Tied.{CountsWithin}
+use Rattle.stripe_core.specs.InsideTied.{CountsWithin}
 use Rattle.page_base.specs.ListSeen.{spliced}
 use Rattle.stripe_core.proofs.Ties.{page_rewritten, page_written, still_tied, bytes_same}
 use Rattle.stripe_core.proofs.Sizes.{resized, framed}

@@ -5,8 +5,9 @@ use Rattle.page_model.specs.Core.{Core, Writing, is_home_place, place_passes}
 use Rattle.page_model.specs.Core as core
 use Rattle.page_model.specs.Steps.{placed}
 use Rattle.stripe_core.specs.declared.region.Lane.TheVariants as lane
-use Rattle.stripe_core.specs.Parts.{reads_of, region_seen, place_of}
-use Rattle.stripe_core.specs.Tied.{Tied, CountsWithin}
+use Rattle.stripe_core.specs.Parts.{region_seen, place_of}
+use Rattle.stripe_core.specs.InsideParts.{reads_of}
+use Rattle.stripe_core.specs.InsideTied.{Tied, CountsWithin}
 use Rattle.stripe_core.proofs.Lanes.{passing, home_reads_none, changed_seen, seen_at}
 use Rattle.stripe_core.proofs.RegionTies.{reads_kept}
 use Rattle.stripe_core.proofs.Sizes.{rezoned}

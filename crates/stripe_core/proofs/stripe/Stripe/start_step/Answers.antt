@@ -13,8 +13,9 @@ use Rattle.stripe_core.specs.Configs.{setup_of}
 use Rattle.stripe_core.proofs.Cores.{core_start}
 use Rattle.stripe_core.specs.declared.region.Lane.TheVariants as lane
 use Rattle.stripe_core.specs.declared.region.Region.{Region}
-use Rattle.stripe_core.specs.Parts.{reads_of, region_seen, place_of}
-use Rattle.stripe_core.specs.Tied.{Tied, IsSized, CountsWithin, read_at}
+use Rattle.stripe_core.specs.Parts.{region_seen, place_of}
+use Rattle.stripe_core.specs.InsideParts.{reads_of}
+use Rattle.stripe_core.specs.InsideTied.{Tied, IsSized, CountsWithin, read_at}
 use Rattle.stripe_core.proofs.Lanes.{Passing, passing, home_reads_none, changed_seen, reads_changed, read_is, reads_length, seen_at}
 use Rattle.stripe_core.proofs.Looks.{at_now, absent_entry}
 use Rattle.stripe_core.proofs.ReadTies.{start_tied, pages_kept}

@@ -4,8 +4,9 @@ use Rattle.std.proofs.lemmas.Option.{slice_get_within}
 use Rattle.page_model.specs.Core.{Core, LanePlace, Home, place_passes, writes}
 use Rattle.page_model.specs.Steps.{placed}
 use Rattle.stripe_core.specs.declared.region.Lane.TheVariants as lane
-use Rattle.stripe_core.specs.Parts.{reads_of, place_of}
-use Rattle.stripe_core.specs.Tied.{Tied}
+use Rattle.stripe_core.specs.Parts.{place_of}
+use Rattle.stripe_core.specs.InsideParts.{reads_of}
+use Rattle.stripe_core.specs.InsideTied.{Tied}
 use Rattle.stripe_core.proofs.Lanes.{passing, changed_seen}
 use Rattle.stripe_core.proofs.RegionTies.{reads_kept, writes_reads_none}
 use Rattle.stripe_core.proofs.Sizes.{rezoned}

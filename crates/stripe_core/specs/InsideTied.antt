@@ -18,7 +18,8 @@ use Rattle.page_model.specs.Residents.{is_in}
 use Rattle.stripe_core.specs.declared.config.StripeConfig.{StripeConfig}
 use Rattle.stripe_core.specs.declared.region.Region.{Region}
 use Rattle.stripe_core.specs.Configs.{setup_of}
-use Rattle.stripe_core.specs.Parts.{Table, ReadOut, reads_of}
+use Rattle.stripe_core.specs.Parts.{Table}
+use Rattle.stripe_core.specs.InsideParts.{ReadOut, reads_of}
 
 -- the frame that an entry names
 abbrev pub frame_in : PageEntry → Option ℕ
