@@ -6,24 +6,23 @@ use Rattle.page_base.specs.declared.keys.Raise.{Raise}
 use Rattle.page_model.specs.Core.{Core, is_full, is_pending, is_reading, place_passes, reads}
 use Rattle.page_model.specs.Faults.{is_waiting}
 use Rattle.page_model.specs.Setups.{has_page}
-use Rattle.page_model.proofs.Prefixes.{page_region}
-use Rattle.page_model.proofs.Services.{service_knows}
 use Rattle.stripe_core.specs.Answers.{raise_answer}
 use Rattle.stripe_core.specs.declared.answers.Raise.TheVariants as raise
 use Rattle.serial_pager.specs.Rests.{IsAtRest}
+use Rattle.serial_pager.proofs.ModelLaws.{Laws}
 
 -- while the lanes are home no page is being read
-pub none_read : (c : Core) (k : Key) → IsAtRest c → has_page c.setup k ≡ true → is_reading c k ≡ false
-none_read c k rest page =
-    let here = (service_knows.here c k.region (rest.home k.region (page_region c.setup k page))).1 in
+pub none_read : (laws : Laws) (c : Core) (k : Key) → IsAtRest c → has_page c.setup k ≡ true → is_reading c k ≡ false
+none_read laws c k rest page =
+    let here = (laws.knows.here c k.region (rest.home k.region (laws.pages.region c.setup k page))).1 in
     ap (place_passes (λ place. reads place k)) here.is ∙ ap (λ place. reads place k) here.home
 
 waiting_one : (k : Key) (ps : List Raise) → is_waiting k ps ≡ true → 0 < length ps
 waiting_one k [] e = absurd cc
 waiting_one k (p ∷ ps) e = omega arith
 
-pub unraised_waits : (c : Core) (k : Key) → IsAtRest c → has_page c.setup k ≡ true → raise_answer c k ≢ raise.Raised → 0 < length c.queue
-unraised_waits c k rest page ne = at (is_pending c k) (is_full c) refl refl (subst (λ b. cond (is_pending c k || b) raise.Pending (cond (is_full c) raise.QueueFull raise.Raised) ≢ raise.Raised) (none_read c k rest page) ne)
+pub unraised_waits : (laws : Laws) (c : Core) (k : Key) → IsAtRest c → has_page c.setup k ≡ true → raise_answer c k ≢ raise.Raised → 0 < length c.queue
+unraised_waits laws c k rest page ne = at (is_pending c k) (is_full c) refl refl (subst (λ b. cond (is_pending c k || b) raise.Pending (cond (is_full c) raise.QueueFull raise.Raised) ≢ raise.Raised) (none_read laws c k rest page) ne)
   where
     at : (a b : Bool) → is_pending c k ≡ a → is_full c ≡ b → cond (a || false) raise.Pending (cond b raise.QueueFull raise.Raised) ≢ raise.Raised → 0 < length c.queue
     at true b p q f = waiting_one k c.queue p

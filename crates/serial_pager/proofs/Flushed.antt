@@ -13,7 +13,7 @@ use Rattle.serial_pager.specs.Seen.{StripeSeen}
 use Rattle.serial_pager.specs.Holdings as one
 use Rattle.serial_pager.specs.Writings as one_writing
 use Rattle.serial_pager.specs.Pagers.{PagerSeen, group_in, core_in, held_in, kept_in, owes_in, count_in, core_at, page_in, has_page, stripe_at, owes, count_at, IsSame, HoldsSame, CountsGrow, RoseAt, IsKept, IsTried}
-use Rattle.serial_pager.specs.Sound.{IsSound, Flushes, SomeRose}
+use Rattle.serial_pager.specs.InsideSound.{IsSound, Flushes, SomeRose}
 use Rattle.serial_pager.proofs.Kept.{kept_where_told}
 use Rattle.serial_pager.proofs.Stripes.{stripe_of_pages}
 use Rattle.serial_pager.proofs.Unmade.{past}

@@ -16,7 +16,6 @@ use Rattle.serial_pager.specs.Seen.{StripeSeen}
 use Rattle.serial_pager.proofs.Goes.{all_both, went_nowhere, went_twice}
 use Rattle.serial_pager.proofs.Loops.{counts_twice, holds_same, list_weaker, rose_earlier}
 use Rattle.serial_pager.proofs.Holds.{stores_nothing, told_held}
-use Rattle.page_model.proofs.Prefixes.{page_region}
 use Rattle.page_model.specs.declared.entry.Entry.TheVariants as entry
 use Rattle.std.proofs.lemmas.Bool.{and_parts, cases_eq, eqb-true, false_from_ne_true, or_cases, or_parts}
 use Rattle.page_base.specs.declared.keys.Key.{Key}
@@ -25,10 +24,11 @@ use Rattle.page_model.specs.Core.{Core, is_dirty, is_home}
 use Rattle.serial_pager.specs.declared.fault.PageFault.{PageFault}
 use Rattle.serial_pager.specs.Holdings.{CountsGrow, HoldsSame, IsClean, IsStored, count_at}
 use Rattle.serial_pager.specs.Rests.{IsAtRest}
-use Rattle.serial_pager.specs.Services.{FailsToWrite, Writes}
+use Rattle.serial_pager.specs.InsideServices.{FailsToWrite, Writes}
 use Rattle.serial_pager.specs.Writings.{RoseAt, WroteBack, flushes, is_failed_write}
+use Rattle.serial_pager.proofs.ModelLaws.{Laws}
 use Rattle.serial_pager.proofs.Owes.{NoMoreOwed, no_more_twice, unwritten_dirty, unwritten_owes, written_clean, written_dirty, written_owes}
-use Rattle.serial_pager.proofs.Returns.{names_unwritten}
+use Rattle.serial_pager.proofs.Returns.{grows_unwritten, grows_written, names_unwritten}
 
 -- what a try to write a page leaves
 module _ {X : Type 0} (c d : Core) (k : Key) where
@@ -44,12 +44,16 @@ module _ {X : Type 0} (c d : Core) (k : Key) where
   page_written (Ok x) w e = written_clean c d k w
   page_written (Err fault) w e = absurd cc
 
-  pub page_failed : IsAtRest c → is_home c k.region ≡ true → (r : Result X PageFault) → IfErr r (λ f. FailsToWrite k c d f) → is_err r ≡ true → RoseAt c d k.region
-  page_failed rest home (Ok x) f e = absurd cc
-  page_failed rest home (Err fault) f e =
+  pub page_failed : (laws : Laws) → IsAtRest c → is_home c k.region ≡ true → (r : Result X PageFault) → IfErr r (λ f. FailsToWrite k c d f) → is_err r ≡ true → RoseAt c d k.region
+  page_failed laws rest home (Ok x) f e = absurd cc
+  page_failed laws rest home (Err fault) f e =
       let own : FailsToWrite fault.key c d fault = subst (λ j. FailsToWrite j c d fault) (sym f.key) f in
-      let names = names_unwritten c d rest fault (subst (λ (j : Key). is_home c j.region ≡ true) (sym f.key) home) own in
+      let names = names_unwritten laws c d rest fault (subst (λ (j : Key). is_home c j.region ≡ true) (sym f.key) home) own in
       subst (λ (j : Key). RoseAt c d j.region) f.key (subst (λ (n : ℕ). Rose (count_at c fault.key.region) n) names.count names.rose)
+
+  pub page_grows : (laws : Laws) → IsAtRest c → is_home c k.region ≡ true → (r : Result X PageFault) → OnOk r (Writes k c d) → IfErr r (λ f. FailsToWrite k c d f) → CountsGrow c d
+  page_grows laws rest home (Ok x) w f = grows_written laws c d rest k home w
+  page_grows laws rest home (Err fault) w f = grows_unwritten laws c d rest k home fault f
 
 -- ---- the entries of writes for a flush
 
@@ -203,10 +207,10 @@ pub record TriedRegion {J : Type 0} (has_noted : J → History Entry → Type 0)
   pub clean : failed ≡ false → IsClean new.core region
   pub few : new.core.events ≤ old.core.events + 2 * pages
 
-pub stored : (c : Core) (r : ℕ) → IsAtRest c → IsClean c r → IsStored c r
-stored c r rest clean = record {
+pub stored : (laws : Laws) (c : Core) (r : ℕ) → IsAtRest c → IsClean c r → IsStored c r
+stored laws c r rest clean = record {
   clean = clean;
-  told = λ k at page is. told_held rest.history c k rest.stands (rest.home k.region (page_region c.setup k page)) page is (clean k at page);
+  told = λ k at page is. told_held laws rest.history c k rest.stands (rest.home k.region (laws.pages.region c.setup k page)) page is (clean k at page);
 }
 
 clean_later : (a b : Core) (r : ℕ) → b.setup ≡ a.setup → ((j : Key) → is_dirty a j ≡ false → is_dirty b j ≡ false) → IsClean a r → IsClean b r
@@ -216,8 +220,8 @@ flush_stores : (e : Entry) → flushes e ≡ true → stores_nothing e ≡ true
 flush_stores (entry.Save j place bytes) e = absurd cc
 flush_stores x e = refl
 
-pub flushes_hold : {J : Type 0} (noted : J → History Entry → Type 0) (failed : Bool) (old new : StripeSeen J) → IsAtRest old.core → IsAtRest new.core → WroteBack noted failed old new → HoldsSame old.core new.core
-flushes_hold noted failed old new a b w = holds_same noted w.entries old new a b w.went (list_weaker flushes stores_nothing w.entries flush_stores w.pass)
+pub flushes_hold : (laws : Laws) {J : Type 0} (noted : J → History Entry → Type 0) (failed : Bool) (old new : StripeSeen J) → IsAtRest old.core → IsAtRest new.core → WroteBack noted failed old new → HoldsSame old.core new.core
+flushes_hold laws noted failed old new a b w = holds_same laws noted w.entries old new a b w.went (list_weaker flushes stores_nothing w.entries flush_stores w.pass)
 
 got_or : (shapes : List RegionShape) (r : ℕ) (shape : RegionShape) → slice_get shapes r ≡ Some shape → get_or shapes r shape ≡ shape
 got_or [] r shape is = absurd cc

@@ -10,12 +10,12 @@ use Rattle.serial_pager.specs.Rests.{IsAtRest}
 use Rattle.histories.specs.Histories.{History}
 use Rattle.page_model.specs.declared.entry.Entry.{Entry}
 use Rattle.page_model.specs.Setups.{regions}
-use Rattle.page_model.proofs.Changes.{slice_set_same, slice_set_other, slice_set_length}
 use Rattle.serial_pager.specs.Seen.{StripeSeen}
 use Rattle.serial_pager.specs.Holdings as one
 use Rattle.serial_pager.specs.Goings.{Went}
 use Rattle.serial_pager.specs.Writings.{RoseAt, WroteBack, flushes, is_failed_write}
-use Rattle.serial_pager.specs.Sound.{Flushes, FlushesAll, SomeRose}
+use Rattle.serial_pager.specs.InsideSound.{Flushes, FlushesAll, SomeRose}
+use Rattle.serial_pager.proofs.Lists.{slice_set_same, slice_set_other, slice_set_length}
 use Rattle.serial_pager.proofs.Unmade.{some_is}
 use Rattle.serial_pager.proofs.Goes.{all_both, went_nowhere, went_twice}
 use Rattle.serial_pager.proofs.Flushes.{or_false, or_true}

@@ -9,7 +9,8 @@ use Rattle.page_model.specs.declared.entry.Entry.{Entry}
 use Rattle.page_model.specs.Core.{Core}
 use Rattle.page_model.specs.Stands.{StandsFor}
 use Rattle.serial_pager.specs.Seen.{StripeSeen}
-use Rattle.serial_pager.specs.Goings.{Went, WentTo, WentBy}
+use Rattle.serial_pager.specs.Goings.{Went, WentTo}
+use Rattle.serial_pager.specs.InsideGoings.{WentBy}
 
 by_both : (later old : List Entry) (h : History Entry) → by 0 later ++ (by 0 old ++ h) ≡ by 0 (later ++ old) ++ h
 by_both later old h = sym (append_assoc (by 0 later) (by 0 old) h) ∙ ap (λ x. x ++ h) (sym (map-append (λ (e : Entry). (0, e)) later old))

@@ -14,10 +14,8 @@ use Rattle.page_model.specs.Residents.{is_resident}
 use Rattle.page_model.specs.Setups.{Setup, has_page, is_told}
 use Rattle.page_model.specs.Core.{Core, Resident, page_at, is_dirty, is_home}
 use Rattle.page_model.specs.Stands.{StandsFor, HomeLane}
-use Rattle.page_model.proofs.Agreements.{present_is, page_seen, dirty_is}
-use Rattle.page_model.proofs.Kept.{absent_clean, kept_flat}
-use Rattle.page_model.proofs.Services.{service_knows}
 use Rattle.serial_pager.specs.Holdings.{told, told_by_place, told_by_region, bytes_or, held}
+use Rattle.serial_pager.proofs.ModelLaws.{Laws}
 
 -- ---- flat memory
 
@@ -37,36 +35,36 @@ flat_kept s es h k e = ap (λ (b : ℕ → ℕ). map b (range_with_len 0 s.page_
 -- ---- what is told and held
 
 -- a page that its history has clean is told as it is, by its lane at home
-pub told_flat : (h : History Entry) (c : Core) (k : Key) → StandsFor h c → is_home c k.region ≡ true → has_page c.setup k ≡ true → is_told c.setup k ≡ true → bits.is_dirty h k ≡ false → told c k ≡ Some (flat c.setup h k)
-told_flat h c k st home page is clean =
-    let x = service_knows.here c k.region home in
+pub told_flat : (laws : Laws) (h : History Entry) (c : Core) (k : Key) → StandsFor h c → is_home c k.region ≡ true → has_page c.setup k ≡ true → is_told c.setup k ≡ true → bits.is_dirty h k ≡ false → told c k ≡ Some (flat c.setup h k)
+told_flat laws h c k st home page is clean =
+    let x = laws.knows.here c k.region home in
     let lane : LaneSeen = x.0 in
-    let like : HomeLane c.setup h k.region lane = service_knows.like h c k.region lane st x.1 in
+    let like : HomeLane c.setup h k.region lane = laws.knows.like h c k.region lane st x.1 in
     let there : told c k ≡ told_at lane.told k.page = ap (λ o. told_by_region o k.page) x.1.is ∙ ap (λ p. told_by_place p k.page) x.1.home in
-    there ∙ like.kept k.page (flat c.setup h k) page is (kept_flat c.setup h k st.legal is (λ b e. st.fits.page_bytes k b page e) clean)
+    there ∙ like.kept k.page (flat c.setup h k) page is (laws.clean.kept c.setup h k st.fits st.legal page is clean)
 
 abbrev pub flat_or_none : Setup → History Entry → Key → Option (List ℕ)
 flat_or_none s h k = cond (is_told s k) (Some (flat s h k)) None
 
-pub held_is : (h : History Entry) (c : Core) (k : Key) → StandsFor h c → is_home c k.region ≡ true → has_page c.setup k ≡ true → held c k ≡ flat_or_none c.setup h k
-held_is h c k st home page = go (is_told c.setup k) refl
+pub held_is : (laws : Laws) (h : History Entry) (c : Core) (k : Key) → StandsFor h c → is_home c k.region ≡ true → has_page c.setup k ≡ true → held c k ≡ flat_or_none c.setup h k
+held_is laws h c k st home page = go (is_told c.setup k) refl
   where
     at : (o : Option Resident) → page_at c k ≡ o → is_told c.setup k ≡ true → bytes_or o (told c k) ≡ Some (flat c.setup h k)
-    at (Some r) e is = ap Some (OnTrue_at is (page_seen h c k r st e).bytes)
+    at (Some r) e is = ap Some (OnTrue_at is (laws.show.found h c k r st e).bytes)
     at None e is =
-        let gone : is_resident h k ≡ false = sym (present_is h c k st) ∙ ap is_some e in
-        told_flat h c k st home page is (absent_clean c.setup h k st.legal gone)
+        let gone : is_resident h k ≡ false = sym (laws.show.present h c k st) ∙ ap is_some e in
+        told_flat laws h c k st home page is (laws.clean.absent c.setup h k st.legal gone)
 
     go : (b : Bool) → is_told c.setup k ≡ b → cond b (bytes_or (page_at c k) (told c k)) None ≡ cond b (Some (flat c.setup h k)) None
     go true is = at (page_at c k) refl is
     go false is = refl
 
 -- a clean page is told as it holds
-pub told_held : (h : History Entry) (c : Core) (k : Key) → StandsFor h c → is_home c k.region ≡ true → has_page c.setup k ≡ true → is_told c.setup k ≡ true → is_dirty c k ≡ false → told c k ≡ held c k
-told_held h c k st home page is clean =
-    let both : (is_resident h k && bits.is_dirty h k) ≡ false = sym (dirty_is h c k st) ∙ clean in
+pub told_held : (laws : Laws) (h : History Entry) (c : Core) (k : Key) → StandsFor h c → is_home c k.region ≡ true → has_page c.setup k ≡ true → is_told c.setup k ≡ true → is_dirty c k ≡ false → told c k ≡ held c k
+told_held laws h c k st home page is clean =
+    let both : (is_resident h k && bits.is_dirty h k) ≡ false = sym (laws.show.dirty h c k st) ∙ clean in
     let free : bits.is_dirty h k ≡ false = elim (cases_Bool (is_resident h k)) [
       | inl here ↦ rw here at both
-      | inr gone ↦ absent_clean c.setup h k st.legal gone
+      | inr gone ↦ laws.clean.absent c.setup h k st.legal gone
     ] in
-    told_flat h c k st home page is free ∙ sym (held_is h c k st home page ∙ cond-true (is_told c.setup k) (Some (flat c.setup h k)) None is)
+    told_flat laws h c k st home page is free ∙ sym (held_is laws h c k st home page ∙ cond-true (is_told c.setup k) (Some (flat c.setup h k)) None is)

@@ -6,12 +6,12 @@ use Rattle.page_base.specs.Lanes.{LaneSeen}
 use Rattle.page_base.specs.declared.keys.Key.{Key}
 use Rattle.page_model.specs.Core.{Core, is_dirty, page_at, why_pending}
 use Rattle.page_model.specs.Setups.{is_told, told_by}
-use Rattle.page_model.proofs.Prefixes.{page_region}
 use Rattle.serial_pager.specs.Seen.{StripeSeen}
 use Rattle.serial_pager.specs.Holdings as one
 use Rattle.serial_pager.specs.Pagers.{PagerSeen, AreRowsOf, core_in, held_in, kept_in, owes_in, has_page, stripe_at, held, kept, owes}
-use Rattle.serial_pager.specs.Sound.{IsSound}
+use Rattle.serial_pager.specs.InsideSound.{IsSound}
 use Rattle.serial_pager.proofs.Holds.{told_held}
+use Rattle.serial_pager.proofs.ModelLaws.{Laws}
 use Rattle.serial_pager.proofs.Stripes.{stripe_of_pages}
 use Rattle.serial_pager.proofs.Unmade.{past}
 
@@ -27,7 +27,7 @@ kept_where_told c k same = go (is_told c.setup k) refl
     go true told = same_kept (one.held c k) (one.told c k) (same told)
     go false told = subst (λ o. IfSome o (λ bytes. one.told c k ≡ Some bytes)) (sym (ap (λ b. cond b (one.bytes_or (page_at c k) (one.told c k)) None) told)) tt
 
-module _ {J : Type 0} (p : PagerSeen J) (sound : IsSound p) where
+module _ (laws : Laws) {J : Type 0} (p : PagerSeen J) (sound : IsSound p) where
   -- the lane of a page that owes nothing tells what it holds
   pub unowed_kept : (k : Key) → has_page p k ≡ true → owes p k ≡ false → IfSome (held p k) (λ bytes. kept p k ≡ Some bytes)
   unowed_kept k page free = go (slice_get p.stripes (stripe_at p k)) refl
@@ -37,9 +37,9 @@ module _ {J : Type 0} (p : PagerSeen J) (sound : IsSound p) where
       go (Some x) is =
           let part = sound.each (stripe_at p k) x is in
           let its = stripe_of_pages p (stripe_at p k) x.core part k page refl in
-          let home = part.rest.home k.region (page_region x.core.setup k its) in
+          let home = part.rest.home k.region (laws.pages.region x.core.setup k its) in
           let clean : is_dirty x.core k ≡ false = (or_parts (is_dirty x.core k) (one.is_for_store (why_pending x.core k)) (subst (λ o. owes_in (core_in o) k ≡ false) is free)).0 in
-          subst (λ o. IfSome (held_in (core_in o) k) (λ bytes. kept_in (core_in o) k ≡ Some bytes)) (sym is) (kept_where_told x.core k (λ told. told_held part.rest.history x.core k part.rest.stands home its told clean))
+          subst (λ o. IfSome (held_in (core_in o) k) (λ bytes. kept_in (core_in o) k ≡ Some bytes)) (sym is) (kept_where_told x.core k (λ told. told_held laws part.rest.history x.core k part.rest.stands home its told clean))
 
   -- lanes that are handed back tell of a page what its lane told
   pub told_kept : (rows : List (List LaneSeen)) → AreRowsOf p rows → (k : Key) (row : List LaneSeen) → has_page p k ≡ true → slice_get rows (stripe_at p k) ≡ Some row → told_by (slice_get row k.region) k.page ≡ kept p k
@@ -47,7 +47,7 @@ module _ {J : Type 0} (p : PagerSeen J) (sound : IsSound p) where
     where
       by_lane : (x : StripeSeen J) → slice_get p.stripes (stripe_at p k) ≡ Some x → (o : Option LaneSeen) → slice_get row k.region ≡ o → told_by o k.page ≡ one.told x.core k
       by_lane x is None e =
-          let below = page_region x.core.setup k (stripe_of_pages p (stripe_at p k) x.core (sound.each (stripe_at p k) x is) k page refl) in
+          let below = laws.pages.region x.core.setup k (stripe_of_pages p (stripe_at p k) x.core (sound.each (stripe_at p k) x is) k page refl) in
           absurd (omega (arith, past row k.region e, (are.each (stripe_at p k) row x.core at (ap core_in is)).count, below))
       by_lane x is (Some lane) e =
           let here = (are.each (stripe_at p k) row x.core at (ap core_in is)).here k.region lane e in

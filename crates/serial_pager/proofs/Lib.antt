@@ -1,3 +1,6 @@
+pub mod Keys
+pub mod Lists
+pub mod ModelLaws
 pub mod Pages
 pub mod Queues
 pub mod Regions

@@ -16,18 +16,19 @@ use Rattle.page_model.specs.Faults.{is_write}
 use Rattle.page_model.specs.Setups.{Setup, has_page, is_told}
 use Rattle.page_model.specs.Steps as step
 use Rattle.page_model.specs.Steps.{on_page}
-use Rattle.page_model.proofs.Prefixes.{page_region}
 use Rattle.stripe_core.specs.Answers.{GivesBytes}
 use Rattle.serial_pager.specs.declared.fault.PageFault.{PageFault}
 use Rattle.serial_pager.specs.Accesses.{AccessFails, NamesCount, is_read, serves}
-use Rattle.serial_pager.specs.Goings.{Went, WentBy, WentTo}
+use Rattle.serial_pager.specs.Goings.{Went, WentTo}
+use Rattle.serial_pager.specs.InsideGoings.{WentBy}
 use Rattle.serial_pager.specs.Holdings.{CountsGrow, HoldsSame, bytes_or, count_at, held, is_for_store, owes, told}
 use Rattle.serial_pager.specs.Rests.{IsAtRest}
 use Rattle.serial_pager.specs.Seen.{StripeSeen}
-use Rattle.serial_pager.specs.Services.{Faults, Raises, Serves, is_shut, why_shut}
+use Rattle.serial_pager.specs.InsideServices.{Faults, Raises, Serves, is_shut, why_shut}
 use Rattle.serial_pager.proofs.Goes.{by_none, by_twice, to_after, to_these}
 use Rattle.serial_pager.proofs.Holds.{flat_kept, flat_or_none, held_is, stores_nothing}
 use Rattle.serial_pager.proofs.Measures.{cases_key, misses, own, turns_left}
+use Rattle.serial_pager.proofs.ModelLaws.{Laws}
 use Rattle.serial_pager.proofs.Owes.{drops_owe, evicts_owe, fills_owe, misses_owe, opens_owe, raised_owes, unwritten_owes, written_owes}
 use Rattle.serial_pager.proofs.Pages.{page_in, changed_here, changed_other}
 use Rattle.serial_pager.proofs.Returns.{grows_filled, grows_missed, grows_unwritten, grows_written, names_missed, names_unwritten}
@@ -37,12 +38,12 @@ use Rattle.serial_pager.proofs.Turns.{absent_page, raises_no_more, serves_fewer,
 -- ---- what the pages hold
 
 -- entries that store nothing leave what each page holds
-pub holds_same : {J : Type 0} (noted : J → History Entry → Type 0) (es : List Entry) (old new : StripeSeen J) → IsAtRest old.core → IsAtRest new.core → Went noted es old new → list_all stores_nothing es ≡ true → HoldsSame old.core new.core
-holds_same noted es old new a b w none k page =
+pub holds_same : (laws : Laws) {J : Type 0} (noted : J → History Entry → Type 0) (es : List Entry) (old new : StripeSeen J) → IsAtRest old.core → IsAtRest new.core → Went noted es old new → list_all stores_nothing es ≡ true → HoldsSame old.core new.core
+holds_same laws noted es old new a b w none k page =
     let h = a.history in
     let there : has_page new.core.setup k ≡ true = subst (λ (s : Setup). has_page s k ≡ true) (sym w.setup) page in
-    let before = held_is h old.core k a.stands (a.home k.region (page_region old.core.setup k page)) page in
-    let after = held_is (by 0 es ++ h) new.core k (w.stands h a.stands) (b.home k.region (page_region new.core.setup k there)) there in
+    let before = held_is laws h old.core k a.stands (a.home k.region (laws.pages.region old.core.setup k page)) page in
+    let after = held_is laws (by 0 es ++ h) new.core k (w.stands h a.stands) (b.home k.region (laws.pages.region new.core.setup k there)) there in
     let kept : flat_or_none new.core.setup (by 0 es ++ h) k ≡ flat_or_none old.core.setup h k = ap (λ (s : Setup). flat_or_none s (by 0 es ++ h) k) w.setup ∙ ap (λ b. cond (is_told old.core.setup k) (Some b) None) (flat_kept old.core.setup es h k none) in
     after ∙ (kept ∙ sym before)
 
@@ -72,17 +73,17 @@ rose_earlier a b n low rose = omega (arith, low, rose)
 
 -- ---- a service
 
-pub serves_grow : (k : Key) (c d : Core) → IsAtRest c → Serves k c d → CountsGrow c d
-serves_grow k c d rest w = elim w [
+pub serves_grow : (laws : Laws) (k : Key) (c d : Core) → IsAtRest c → Serves k c d → CountsGrow c d
+serves_grow laws k c d rest w = elim w [
   | inl drops ↦ counts_alike c d (ap (λ (x : Core). x.regions) drops.is)
   | inr x ↦ elim x [
     | inl opens ↦ counts_alike c d (ap (λ (x : Core). x.regions) opens.is)
     | inr y ↦ elim y [
-      | inl fills ↦ grows_filled c d rest fills
+      | inl fills ↦ grows_filled laws c d rest fills
       | inr z ↦ elim z [
-        | inl other ↦ grows_missed c d rest other.0 other.1.1
+        | inl other ↦ grows_missed laws c d rest other.0 other.1.1
         | inr u ↦ elim u [
-          | inl cleans ↦ grows_written c d rest cleans.key (picks_home c cleans.key rest cleans.picks) cleans.writes
+          | inl cleans ↦ grows_written laws c d rest cleans.key (picks_home laws c cleans.key rest cleans.picks) cleans.writes
           | inr evicts ↦ counts_alike c d (ap (λ (x : Core). x.regions) evicts.is)
         ]
       ]
@@ -90,13 +91,13 @@ serves_grow k c d rest w = elim w [
   ]
 ]
 
-pub serves_owe : (k : Key) (c d : Core) → IsAtRest c → Serves k c d → (j : Key) → owes d j ≡ true → owes c j ≡ true
-serves_owe k c d rest w = elim w [
+pub serves_owe : (laws : Laws) (k : Key) (c d : Core) → IsAtRest c → Serves k c d → (j : Key) → owes d j ≡ true → owes c j ≡ true
+serves_owe laws k c d rest w = elim w [
   | inl drops ↦ drops_owe c d drops
   | inr x ↦ elim x [
-    | inl opens ↦ opens_owe c d rest opens
+    | inl opens ↦ opens_owe c d laws rest opens
     | inr y ↦ elim y [
-      | inl fills ↦ fills_owe c d rest fills
+      | inl fills ↦ fills_owe c d laws rest fills
       | inr z ↦ elim z [
         | inl other ↦ misses_owe c d other.0 other.1.1
         | inr u ↦ elim u [
@@ -128,10 +129,10 @@ serves_events k c d w = elim w [
 
 -- ---- a fault
 
-pub faults_grow : (k : Key) (c d : Core) (f : PageFault) → IsAtRest c → Faults k c d f → CountsGrow c d
-faults_grow k c d f rest w = elim w [
-  | inl read ↦ grows_missed c d rest f read.1
-  | inr write ↦ grows_unwritten c d rest f.key (picks_home c f.key rest write.picks) f write.fails
+pub faults_grow : (laws : Laws) (k : Key) (c d : Core) (f : PageFault) → IsAtRest c → Faults k c d f → CountsGrow c d
+faults_grow laws k c d f rest w = elim w [
+  | inl read ↦ grows_missed laws c d rest f read.1
+  | inr write ↦ grows_unwritten laws c d rest f.key (picks_home laws c f.key rest write.picks) f write.fails
 ]
 
 pub faults_owe : (k : Key) (c d : Core) (f : PageFault) → Faults k c d f → (j : Key) → owes d j ≡ true → owes c j ≡ true
@@ -140,10 +141,10 @@ faults_owe k c d f w = elim w [
   | inr write ↦ unwritten_owes c d f.key f write.fails
 ]
 
-pub faults_name : (k : Key) (c d : Core) (f : PageFault) → IsAtRest c → Faults k c d f → NamesCount c d f
-faults_name k c d f rest w = elim w [
-  | inl read ↦ names_missed c d rest f read.1
-  | inr write ↦ names_unwritten c d rest f (picks_home c f.key rest write.picks) write.fails
+pub faults_name : (laws : Laws) (k : Key) (c d : Core) (f : PageFault) → IsAtRest c → Faults k c d f → NamesCount c d f
+faults_name laws k c d f rest w = elim w [
+  | inl read ↦ names_missed laws c d rest f read.1
+  | inr write ↦ names_unwritten laws c d rest f (picks_home laws c f.key rest write.picks) write.fails
 ]
 
 pub faults_events : (k : Key) (c d : Core) (f : PageFault) → Faults k c d f → d.events ≤ c.events + 2
@@ -201,14 +202,14 @@ module _ {J : Type 0} (noted : J → History Entry → Type 0) (stores : Bool) (
       raises_no_more stores k why a.core b.core q.raises (subst (λ o. misses stores o ≡ true) pages q.missed) (subst (λ o. own stores o (Some (record { key = k; why = why })) ≡ 0) pages q.right)
 
   -- a whole turn
-  pub turned_once : (why : Why) (o a b c : StripeSeen J) → Turned noted stores reasons k owed o a → Asked why a b → IsAtRest c.core → WentBy noted (serves k reasons) b c → Serves k b.core c.core → Turned noted stores reasons k owed o c
-  turned_once why o a b c t q rest went w = record {
+  pub turned_once : (laws : Laws) (why : Why) (o a b c : StripeSeen J) → Turned noted stores reasons k owed o a → Asked why a b → IsAtRest c.core → WentBy noted (serves k reasons) b c → Serves k b.core c.core → Turned noted stores reasons k owed o c
+  turned_once laws why o a b c t q rest went w = record {
     rest = rest;
     went = by_twice noted (serves k reasons) o a c t.went (by_twice noted (serves k reasons) a b c q.went went);
-    owes_ = λ j e. asked_owes why o a b t q j (serves_owe k b.core c.core q.rest w j e);
-    counts = counts_twice o.core a.core c.core t.counts (counts_twice a.core b.core c.core (raises_grow k why a.core b.core q.raises) (serves_grow k b.core c.core q.rest w));
+    owes_ = λ j e. asked_owes why o a b t q j (serves_owe laws k b.core c.core q.rest w j e);
+    counts = counts_twice o.core a.core c.core t.counts (counts_twice a.core b.core c.core (raises_grow k why a.core b.core q.raises) (serves_grow laws k b.core c.core q.rest w));
     fewer =
-        let less = serves_fewer stores k b.core c.core q.rest w q.missed in
+        let less = serves_fewer laws stores k b.core c.core q.rest w q.missed in
         let most = asked_turns why a b q in
         let one = raises_events k why a.core b.core q.raises in
         let two = serves_events k b.core c.core w in
@@ -216,9 +217,9 @@ module _ {J : Type 0} (noted : J → History Entry → Type 0) (stores : Bool) (
         omega (arith, less, most, one, two, sofar);
   }
 
-  pub turned_less : (why : Why) (a b c : StripeSeen J) → Asked why a b → Serves k b.core c.core → turns_left stores c.core k < turns_left stores a.core k
-  turned_less why a b c q w =
-      let less = serves_fewer stores k b.core c.core q.rest w q.missed in
+  pub turned_less : (laws : Laws) (why : Why) (a b c : StripeSeen J) → Asked why a b → Serves k b.core c.core → turns_left stores c.core k < turns_left stores a.core k
+  turned_less laws why a b c q w =
+      let less = serves_fewer laws stores k b.core c.core q.rest w q.missed in
       let most = asked_turns why a b q in
       omega (arith, less, most)
 
@@ -241,37 +242,37 @@ module _ {J : Type 0} (noted : J → History Entry → Type 0) (stores : Bool) (
   failed_before : (why : Why) (o a b : StripeSeen J) → Turned noted stores reasons k owed o a → Asked why a b → CountsGrow o.core b.core
   failed_before why o a b t q = counts_twice o.core a.core b.core t.counts (raises_grow k why a.core b.core q.raises)
 
-  pub failed_counts : (why : Why) (o a b c : StripeSeen J) (f : PageFault) → Turned noted stores reasons k owed o a → Asked why a b → Faults k b.core c.core f → CountsGrow o.core c.core
-  failed_counts why o a b c f t q w = counts_twice o.core b.core c.core (failed_before why o a b t q) (faults_grow k b.core c.core f q.rest w)
+  pub failed_counts : (laws : Laws) (why : Why) (o a b c : StripeSeen J) (f : PageFault) → Turned noted stores reasons k owed o a → Asked why a b → Faults k b.core c.core f → CountsGrow o.core c.core
+  failed_counts laws why o a b c f t q w = counts_twice o.core b.core c.core (failed_before why o a b t q) (faults_grow laws k b.core c.core f q.rest w)
 
-  pub failed_names : (why : Why) (o a b c : StripeSeen J) (f : PageFault) → Turned noted stores reasons k owed o a → Asked why a b → Faults k b.core c.core f → NamesCount o.core c.core f
-  failed_names why o a b c f t q w =
-      let names = faults_name k b.core c.core f q.rest w in
+  pub failed_names : (laws : Laws) (why : Why) (o a b c : StripeSeen J) (f : PageFault) → Turned noted stores reasons k owed o a → Asked why a b → Faults k b.core c.core f → NamesCount o.core c.core f
+  failed_names laws why o a b c f t q w =
+      let names = faults_name laws k b.core c.core f q.rest w in
       record { count = names.count; rose = rose_earlier (count_at o.core f.key.region) (count_at b.core f.key.region) f.faults (failed_before why o a b t q f.key.region) names.rose }
 
-  pub failed_events : (why : Why) (o a b c : StripeSeen J) (f : PageFault) → IsAtRest o.core → Turned noted stores reasons k owed o a → Asked why a b → Faults k b.core c.core f → c.core.events ≤ o.core.events + 65536
-  failed_events why o a b c f rest t q w =
+  pub failed_events : (laws : Laws) (why : Why) (o a b c : StripeSeen J) (f : PageFault) → IsAtRest o.core → Turned noted stores reasons k owed o a → Asked why a b → Faults k b.core c.core f → c.core.events ≤ o.core.events + 65536
+  failed_events laws why o a b c f rest t q w =
       let one = raises_events k why a.core b.core q.raises in
       let two = faults_events k b.core c.core f w in
-      let most = few_turns stores o.core k rest in
+      let most = few_turns laws stores o.core k rest in
       let sofar = t.fewer in
       omega (arith, one, two, most, sofar)
 
-  pub turned_few : (o a : StripeSeen J) → IsAtRest o.core → Turned noted stores reasons k owed o a → a.core.events + 4 ≤ o.core.events + 65536
-  turned_few o a rest t =
-      let most = few_turns stores o.core k rest in
+  pub turned_few : (laws : Laws) (o a : StripeSeen J) → IsAtRest o.core → Turned noted stores reasons k owed o a → a.core.events + 4 ≤ o.core.events + 65536
+  turned_few laws o a rest t =
+      let most = few_turns laws stores o.core k rest in
       let sofar = t.fewer in
       omega (arith, most, sofar)
 
   -- ---- what the pages hold at the end
 
-  pub turned_holds : (o a : StripeSeen J) → IsAtRest o.core → Turned noted stores reasons k owed o a → HoldsSame o.core a.core
-  turned_holds o a rest t = holds_same noted t.went.entries o a rest t.rest t.went.went (serving_stores_nothing k reasons t.went.entries t.went.pass)
+  pub turned_holds : (laws : Laws) (o a : StripeSeen J) → IsAtRest o.core → Turned noted stores reasons k owed o a → HoldsSame o.core a.core
+  turned_holds laws o a rest t = holds_same laws noted t.went.entries o a rest t.rest t.went.went (serving_stores_nothing k reasons t.went.entries t.went.pass)
 
-  pub failed_holds : (o c : StripeSeen J) (f : PageFault) → IsAtRest o.core → IsAtRest c.core → AccessFails noted k reasons owed o c f → HoldsSame o.core c.core
-  failed_holds o c f old new w = elim w [
-    | inl read ↦ holds_same noted (entry.ReadFailed f.key f.faults ∷ read.went.before) o c old new read.went.went (serving_stores_nothing k reasons read.went.before read.went.pass)
-    | inr write ↦ holds_same noted (entry.WriteFailed f.key f.faults ∷ write.went.before) o c old new write.went.went (serving_stores_nothing k reasons write.went.before write.went.pass)
+  pub failed_holds : (laws : Laws) (o c : StripeSeen J) (f : PageFault) → IsAtRest o.core → IsAtRest c.core → AccessFails noted k reasons owed o c f → HoldsSame o.core c.core
+  failed_holds laws o c f old new w = elim w [
+    | inl read ↦ holds_same laws noted (entry.ReadFailed f.key f.faults ∷ read.went.before) o c old new read.went.went (serving_stores_nothing k reasons read.went.before read.went.pass)
+    | inr write ↦ holds_same laws noted (entry.WriteFailed f.key f.faults ∷ write.went.before) o c old new write.went.went (serving_stores_nothing k reasons write.went.before write.went.pass)
   ]
 
   pub failed_setup : (o c : StripeSeen J) (f : PageFault) → AccessFails noted k reasons owed o c f → c.core.setup ≡ o.core.setup

@@ -7,7 +7,7 @@ use Rattle.page_base.specs.declared.keys.Key.{Key}
 use Rattle.page_base.specs.declared.keys.Raise.{Raise}
 use Rattle.page_model.specs.Core.{Core, Resident, free_frames}
 use Rattle.page_model.specs.Faults.{is_write, is_protected_why}
-use Rattle.page_model.proofs.Keys.{same-true, same_self}
+use Rattle.serial_pager.proofs.Keys.{same-true, same_self}
 use Rattle.serial_pager.proofs.Pages.{page_in}
 use Rattle.serial_pager.proofs.Queues.{raise_in}
 

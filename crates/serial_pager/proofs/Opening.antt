@@ -19,7 +19,8 @@ use Rattle.serial_pager.specs.Seen.{StripeSeen}
 use Rattle.serial_pager.specs.Rests.{IsAtRest}
 use Rattle.serial_pager.specs.Holdings as stripe
 use Rattle.serial_pager.specs.Pagers.{PagerSeen, AreLanesOf, AreRowsOf, rows_by, config_of, CanOpen, IsOpened, core_in, held_in, owes_in, count_in, stripe_at, held, owes, count_at}
-use Rattle.serial_pager.specs.Sound.{HandsBack, seen_of, IsStripe, IsSound}
+use Rattle.serial_pager.specs.Sound.{seen_of}
+use Rattle.serial_pager.specs.InsideSound.{HandsBack, IsStripe, IsSound}
 use Rattle.serial_pager.proofs.Unmade.{some_is, map_append, reverse_snoc}
 
 pub same_items : {A : Type 0} (xs ys : List A) → length xs ≡ length ys → ((i : ℕ) (x : A) → slice_get xs i ≡ Some x → slice_get ys i ≡ Some x) → xs ≡ ys

@@ -13,15 +13,14 @@ use Rattle.page_model.specs.Faults.{is_write, is_protected_why, served}
 use Rattle.page_model.specs.Readers.{ReadyToOpen, ReadyToRead}
 use Rattle.page_model.specs.Steps as step
 use Rattle.page_model.specs.Steps.{on_page, filled_page, placed, without_page}
-use Rattle.page_model.proofs.Keys.{same-true, same_self}
-use Rattle.page_model.proofs.Nexts.{chosen_open}
-use Rattle.page_model.proofs.Services.{service_knows}
 use Rattle.serial_pager.specs.declared.fault.PageFault.{PageFault}
 use Rattle.serial_pager.specs.Holdings.{is_for_store, owes}
 use Rattle.serial_pager.specs.Rests.{IsAtRest}
-use Rattle.serial_pager.specs.Services.{Drops, Opens, Fills, Misses, Evicts, FailsToWrite, Raises, Writes}
+use Rattle.serial_pager.specs.InsideServices.{Drops, Opens, Fills, Misses, Evicts, FailsToWrite, Raises, Writes}
 use Rattle.serial_pager.proofs.Asks.{raised_new}
+use Rattle.serial_pager.proofs.Keys.{same-true, same_self}
 use Rattle.serial_pager.proofs.Measures.{cases_key}
+use Rattle.serial_pager.proofs.ModelLaws.{Laws}
 use Rattle.serial_pager.proofs.Pages.{page_in, appended_here, appended_other, changed_here, changed_other, removed_here, removed_other}
 use Rattle.serial_pager.proofs.Queues.{raise_in, raised_here, raised_other, served_here, served_other}
 use Rattle.serial_pager.proofs.Regions.{on_region_here}
@@ -169,8 +168,8 @@ module _ (c d : Core) where
         subst (λ o. owes_of o (raise_in c.queue j) ≡ true) (others j ne) (subst (λ o. owes_of (page_in d.pages j) o ≡ true) kept e)
   ]
 
-  pub opens_owe : IsAtRest c → Opens c d → NoMoreOwed c d
-  opens_owe rest w = served_owes w.key (ap (λ (x : Core). x.queue) w.is)
+  pub opens_owe : (laws : Laws) → IsAtRest c → Opens c d → NoMoreOwed c d
+  opens_owe laws rest w = served_owes w.key (ap (λ (x : Core). x.queue) w.is)
       (λ j ne. ap (λ (x : Core). page_in x.pages j) w.is ∙ changed_other w.key (λ r. record r { protected = false; dirty = true }) c.pages j (λ r. refl) ne)
       (λ e. or_right (is_dirty c w.key) (is_for_store (why_pending c w.key)) mine)
     where
@@ -182,17 +181,17 @@ module _ (c d : Core) where
 
       mine : is_for_store (why_pending c w.key) ≡ true
       mine =
-          let n = chosen_open (find (is_stale c) c.queue) (find (is_servable c) c.queue) (list_any (waits_for_room c) c.queue) w.key w.next in
-          let ready : ReadyToOpen c w.key = service_knows.open_ rest.history c w.key rest.stands w.next in
+          let n = laws.chosen.open_ (find (is_stale c) c.queue) (find (is_servable c) c.queue) (list_any (waits_for_room c) c.queue) w.key w.next in
+          let ready : ReadyToOpen c w.key = laws.knows.open_ rest.history c w.key rest.stands w.next in
           let of = waiting_some c.queue w.key ready.pending in
-          let same_why = why_is rest.history c rest.stands (is_servable c) n.0 of.0 w.key n.2 n.4 of.1 in
+          let same_why = why_is laws rest.history c rest.stands (is_servable c) n.0 of.0 w.key n.2 n.4 of.1 in
           ap (λ o. is_for_store (why_or_read o)) of.1 ∙ (ap is_for_store same_why ∙ prot n.0.why n.3)
 
-  pub fills_owe : IsAtRest c → Fills c d → NoMoreOwed c d
-  fills_owe rest w = served_owes w.key (ap (λ (x : Core). x.queue) w.is) others mine
+  pub fills_owe : (laws : Laws) → IsAtRest c → Fills c d → NoMoreOwed c d
+  fills_owe laws rest w = served_owes w.key (ap (λ (x : Core). x.queue) w.is) others mine
     where
       ready : ReadyToRead rest.history c w.key
-      ready = service_knows.read rest.history c w.key rest.stands w.next
+      ready = laws.knows.read rest.history c w.key rest.stands w.next
 
       new : Resident
       new = filled_page w.key (why_out (step.start_read c w.key) w.key) w.bytes
@@ -212,7 +211,7 @@ module _ (c d : Core) where
       mine : is_dirty d w.key ≡ true → owes c w.key ≡ true
       mine e =
           let now : page_in d.pages w.key ≡ Some new = ap (λ rs. page_in rs w.key) pages ∙ appended_here c.pages new w.key (absent_page c w.key ready.absent) (same_self w.key) in
-          let here = (service_knows.here c w.key.region ready.home).1 in
+          let here = (laws.knows.here c w.key.region ready.home).1 in
           let out : why_out (step.start_read c w.key) w.key ≡ why_pending c w.key = ap why_of_place (on_region_here w.key.region (placed (Reading w.key c.events (why_pending c w.key))) c.regions here.region here.is) in
           let writes : is_write (why_pending c w.key) ≡ true = ap is_write (sym out) ∙ (sym (ap dirties now) ∙ e) in
           or_right (is_dirty c w.key) (is_for_store (why_pending c w.key)) (store (why_pending c w.key) writes)

@@ -6,8 +6,8 @@ use Rattle.page_base.specs.Pages.{same}
 use Rattle.page_base.specs.declared.keys.Key.{Key}
 use Rattle.page_model.specs.Core.{Resident}
 use Rattle.page_model.specs.Steps.{on_page, without_page}
-use Rattle.page_model.proofs.Keys.{same-true}
-use Rattle.page_model.proofs.Lists.{find_passes}
+use Rattle.serial_pager.proofs.Keys.{same-true}
+use Rattle.serial_pager.proofs.Lists.{find_passes}
 
 -- page_at, over the list alone
 abbrev pub page_in : List Resident → Key → Option Resident

@@ -2,7 +2,6 @@
 use Rattle.std.proofs.Common.{◌≡◌, ◌⊎◌, inl, inr, ℕ, ◌+◌, ◌*◌, ◌^◌, ◌<◌, ◌≤◌, Bool, true, List, length, get_or, Option, Some, None, Result, Ok, Err, OnOk, OnErr, IfErr, slice_get, slice_set, refl, sym, ap, subst, ◌∙◌, arith}
 use Rattle.std.proofs.lemmas.Bool.{cases_eq, or_cases}
 use Rattle.page_base.specs.Pages.{same}
-use Rattle.stripe_core.proofs.Keys.{same-true}
 use Rattle.std.proofs.lemmas.Option.{slice_get_read}
 use Rattle.histories.specs.Histories.{History}
 use Rattle.page_base.specs.declared.keys.Key.{Key}
@@ -14,7 +13,6 @@ use Rattle.page_model.specs.Events.{InPage}
 use Rattle.page_model.specs.Setups as setup
 use Rattle.page_model.specs.Setups.{Setup, quota}
 use Rattle.page_model.specs.Stands.{StandsFor}
-use Rattle.page_model.proofs.Changes.{slice_set_same, slice_set_other}
 use Rattle.stripe_core.specs.declared.config.StripeConfig.{StripeConfig}
 use Rattle.serial_pager.specs.declared.fault.PageFault.{PageFault}
 use Rattle.serial_pager.specs.Seen.{StripeSeen}
@@ -23,7 +21,10 @@ use Rattle.serial_pager.specs.Goings.{WentTo}
 use Rattle.serial_pager.specs.Accesses.{NamesCount, WriteFails, AccessFails, serves}
 use Rattle.serial_pager.specs.Holdings as stripe
 use Rattle.serial_pager.specs.Pagers.{PagerSeen, core_in, has_page, stripe_at, count_at, IsPiece, IsSame, IsWithin, OnStripe, NamesFault}
-use Rattle.serial_pager.specs.Sound.{seen_of, IsStripe, IsSound}
+use Rattle.serial_pager.specs.Sound.{seen_of}
+use Rattle.serial_pager.specs.InsideSound.{IsStripe, IsSound}
+use Rattle.serial_pager.proofs.Keys.{same-true}
+use Rattle.serial_pager.proofs.Lists.{slice_set_same, slice_set_other}
 use Rattle.serial_pager.proofs.Stripes.{as_many, pages_of_stripe, stripe_of_pages, setups_same, owes_was, count_here, count_was}
 
 -- stripe s is there, and its core is that of stripe s

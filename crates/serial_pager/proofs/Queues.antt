@@ -5,7 +5,7 @@ use Rattle.page_base.specs.Pages.{same}
 use Rattle.page_base.specs.declared.keys.Key.{Key}
 use Rattle.page_base.specs.declared.keys.Raise.{Raise}
 use Rattle.page_model.specs.Faults.{served, is_waiting}
-use Rattle.page_model.proofs.Keys.{same-true}
+use Rattle.serial_pager.proofs.Keys.{same-true}
 
 abbrev pub raise_in : List Raise → Key → Option Raise
 raise_in ps k = find (λ (p : Raise). same p.key k) ps

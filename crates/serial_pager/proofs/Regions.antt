@@ -4,8 +4,8 @@ use Rattle.std.proofs.lemmas.Bool.{cases_eq}
 use Rattle.page_base.specs.Lanes.{LaneSeen}
 use Rattle.page_model.specs.Core.{RegionSeen, LanePlace, Home, closes, is_home_place, place_passes}
 use Rattle.page_model.specs.Steps.{on_region, put_back}
-use Rattle.page_model.proofs.Changes.{slice_set_same, slice_set_other}
 use Rattle.serial_pager.specs.Holdings.{count_of_region}
+use Rattle.serial_pager.proofs.Lists.{slice_set_same, slice_set_other}
 
 pub on_region_here : (r : ℕ) (f : RegionSeen → RegionSeen) (gs : List RegionSeen) (g : RegionSeen) → slice_get gs r ≡ Some g → slice_get (on_region r f gs) r ≡ Some (f g)
 on_region_here r f gs g e =

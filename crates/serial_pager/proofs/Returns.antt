@@ -10,12 +10,12 @@ use Rattle.page_model.specs.Readers.{IsHere}
 use Rattle.page_model.specs.Stands.{StandsFor}
 use Rattle.page_model.specs.Steps as step
 use Rattle.page_model.specs.Steps.{placed, read_missed}
-use Rattle.page_model.proofs.Services.{service_knows}
 use Rattle.serial_pager.specs.declared.fault.PageFault.{PageFault}
 use Rattle.serial_pager.specs.Holdings.{CountsGrow, count_at, count_of_place, count_of_region}
 use Rattle.serial_pager.specs.Accesses.{NamesCount}
 use Rattle.serial_pager.specs.Rests.{IsAtRest}
-use Rattle.serial_pager.specs.Services.{Fills, Misses, Writes, FailsToWrite}
+use Rattle.serial_pager.specs.InsideServices.{Fills, Misses, Writes, FailsToWrite}
+use Rattle.serial_pager.proofs.ModelLaws.{Laws}
 use Rattle.serial_pager.proofs.Regions.{Back, back_twice, back_count, back_grows}
 use Rattle.serial_pager.proofs.Rests.{rests_back}
 
@@ -63,19 +63,19 @@ module _ (c m d : Core) (k : Key) (taken lane : LaneSeen) (here : IsHere c k.reg
 
 -- ---- the regions then
 
-module _ (c d : Core) (rest : IsAtRest c) where
+module _ (laws : Laws) (c d : Core) (rest : IsAtRest c) where
   at_home : (r : ℕ) → is_home c r ≡ true → (g : RegionSeen) × (region_at c r ≡ Some g)
-  at_home r e = let x = service_knows.here c r e in (x.1.region, x.1.is)
+  at_home r e = let x = laws.knows.here c r e in (x.1.region, x.1.is)
 
   pub back_filled : (w : Fills c d) → Back w.key.region w.lane c.regions d.regions
   back_filled w =
-      let g = at_home w.key.region (service_knows.read rest.history c w.key rest.stands w.next).home in
+      let g = at_home w.key.region (laws.knows.read rest.history c w.key rest.stands w.next).home in
       subst (λ (hs : List RegionSeen). Back w.key.region w.lane c.regions hs) (sym (ap (λ (x : Core). x.regions) w.is))
       (back_twice w.key.region w.lane c.regions (placed (Reading w.key c.events (why_pending c w.key))) (placed (Home w.lane)) g.0 g.1 (λ x. refl) (λ x. refl) (λ x. refl))
 
   pub back_missed : (f : PageFault) (w : Misses c d f) → Back f.key.region w.lane c.regions d.regions
   back_missed f w =
-      let g = at_home f.key.region (service_knows.read rest.history c f.key rest.stands w.next).home in
+      let g = at_home f.key.region (laws.knows.read rest.history c f.key rest.stands w.next).home in
       subst (λ (hs : List RegionSeen). Back f.key.region w.lane c.regions hs) (sym (ap (λ (x : Core). x.regions) w.is))
       (back_twice f.key.region w.lane c.regions (placed (Reading f.key c.events (why_pending c f.key))) (read_missed f.key w.lane w.lane.count) g.0 g.1 (λ x. refl) (λ x. refl) (λ x. refl))
 

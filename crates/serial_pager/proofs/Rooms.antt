@@ -1,5 +1,5 @@
 -- Making room: where a read waits for it, no frame is free, and the pick is the oldest page.
-use Rattle.std.proofs.Common.{Bool, List, None, Option, Some, [], ap, arith, cond, false, find, is_none, is_some, length, nat_lt, not, refl, subst, sym, true, ℕ, ◌&&◌, ◌∙◌, ◌∷◌, ◌≡◌, ◌<◌, ◌==◌, ◌≤◌, ◌||◌}
+use Rattle.std.proofs.Common.{Bool, List, None, Option, Some, [], ap, arith, cond, false, find, is_some, length, nat_lt, not, refl, subst, sym, true, ℕ, ◌&&◌, ◌∙◌, ◌∷◌, ◌≡◌, ◌<◌, ◌==◌, ◌≤◌, ◌||◌}
 use Rattle.std.proofs.lemmas.Bool.{and_parts, cond-true, cond-false, eq-eqb, false_from_ne_true, ltb-false}
 use Rattle.std.specs.List.{AllByRecursion, list_any}
 use Rattle.std.specs.Option.{option_map}
@@ -16,18 +16,13 @@ use Rattle.page_model.specs.Faults.{is_protected_why, pending}
 use Rattle.page_model.specs.Serving.{chosen, next_of}
 use Rattle.page_model.specs.Setups.{has_page, regions}
 use Rattle.page_model.specs.Stands.{StandsFor}
-use Rattle.page_model.proofs.Agreements.{held_pages, home_is, next_is, pick_is}
-use Rattle.page_model.proofs.Keys.{same_self}
-use Rattle.page_model.proofs.Lists.{any_none, none_passes}
-use Rattle.page_model.proofs.Prefixes.{page_region}
-use Rattle.page_model.proofs.Serving.{something_is_next}
-use Rattle.page_model.proofs.Since.{flight_page}
-use Rattle.page_model.proofs.Untouched.{flight_region}
 use Rattle.page_model.specs.InFlight as flight
 use Rattle.page_model.specs.Readers.{picked}
-use Rattle.page_model.proofs.Services.{service_knows}
 use Rattle.serial_pager.specs.Rests.{IsAtRest}
-use Rattle.serial_pager.specs.Services.{Picks}
+use Rattle.serial_pager.specs.InsideServices.{Picks}
+use Rattle.serial_pager.proofs.Keys.{same_self}
+use Rattle.serial_pager.proofs.Lists.{any_none, none_passes}
+use Rattle.serial_pager.proofs.ModelLaws.{Laws}
 use Rattle.serial_pager.proofs.Pages.{page_in}
 
 cond_room : (b : Bool) → cond b serve.Room serve.Nothing ≡ serve.Room → b ≡ true
@@ -68,21 +63,21 @@ pub record Oldest (c : Core) (k : Key) : Type 0 where
   pub there : page_in c.pages k ≡ Some page
 
 -- a page may leave, since every lane is home
-idle_page : (c : Core) → IsAtRest c → (k : Key) → has_page c.setup k ≡ true → is_writing c k ≡ false
-idle_page c rest k page =
-    let here = (service_knows.here c k.region (rest.home k.region (page_region c.setup k page))).1 in
+idle_page : (laws : Laws) (c : Core) → IsAtRest c → (k : Key) → has_page c.setup k ≡ true → is_writing c k ≡ false
+idle_page laws c rest k page =
+    let here = (laws.knows.here c k.region (rest.home k.region (laws.pages.region c.setup k page))).1 in
     ap (place_passes (λ place. writes place k)) here.is ∙ ap (λ place. writes place k) here.home
 
 or_true : (b : Bool) → (b || true) ≡ true
 or_true true = refl
 or_true false = refl
 
-leaves : (c : Core) → IsAtRest c → (r : Resident) → has_page c.setup r.key ≡ true → can_leave c r ≡ true
-leaves c rest r page = rw (idle_page c rest r.key page, rest.home r.key.region (page_region c.setup r.key page)) (or_true (not r.dirty))
+leaves : (laws : Laws) (c : Core) → IsAtRest c → (r : Resident) → has_page c.setup r.key ≡ true → can_leave c r ≡ true
+leaves laws c rest r page = rw (idle_page laws c rest r.key page, rest.home r.key.region (laws.pages.region c.setup r.key page)) (or_true (not r.dirty))
 
 -- the pick is the oldest page, since every lane is home
-pub oldest_picked : (c : Core) (k : Key) → IsAtRest c → IsPicked c k → Oldest c k
-oldest_picked c k rest p = at c.pages refl p.picked
+pub oldest_picked : (laws : Laws) (c : Core) (k : Key) → IsAtRest c → IsPicked c k → Oldest c k
+oldest_picked laws c k rest p = at c.pages refl p.picked
   where
     first : (b : Bool) (r : Resident) (o : Option Resident) → b ≡ true → option_map (λ (x : Pick). x.key) (option_map pick_of (cond b (Some r) o)) ≡ Some k → r.key ≡ k
     first true r o is e = cc
@@ -91,8 +86,8 @@ oldest_picked c k rest p = at c.pages refl p.picked
     at : (rs : List Resident) → c.pages ≡ rs → option_map (λ (x : Pick). x.key) (option_map pick_of (find (can_leave c) rs)) ≡ Some k → Oldest c k
     at [] is e = absurd cc
     at (r ∷ rs) is e =
-        let pages : AllByRecursion (λ (x : Resident). has_page c.setup x.key ≡ true) (r ∷ rs) = subst (λ (xs : List Resident). AllByRecursion (λ (x : Resident). has_page c.setup x.key ≡ true) xs) is (held_pages rest.history c rest.stands) in
-        let key : r.key ≡ k = first (can_leave c r) r (find (can_leave c) rs) (leaves c rest r pages.0) e in
+        let pages : AllByRecursion (λ (x : Resident). has_page c.setup x.key ≡ true) (r ∷ rs) = subst (λ (xs : List Resident). AllByRecursion (λ (x : Resident). has_page c.setup x.key ≡ true) xs) is (laws.show.held rest.history c rest.stands) in
+        let key : r.key ≡ k = first (can_leave c r) r (find (can_leave c) rs) (leaves laws c rest r pages.0) e in
         let here : same r.key k ≡ true = rw key (same_self k) in
         record {
           page = r;
@@ -114,63 +109,55 @@ pub record PickKnown (c : Core) (p : Pick) : Type 0 where
 not_less : (n : ℕ) → nat_lt 0 n ≡ false → (n == 0) ≡ true
 not_less n e = let low : n ≤ 0 = ltb-false 0 n e in eq-eqb n 0 (omega (arith, low))
 
-pub pick_known : (c : Core) (p : Pick) → IsAtRest c → next c ≡ serve.Room → pick c ≡ Some p → PickKnown c p
-pick_known c p rest room is =
+pub pick_known : (laws : Laws) (c : Core) (p : Pick) → IsAtRest c → next c ≡ serve.Room → pick c ≡ Some p → PickKnown c p
+pick_known laws c p rest room is =
     let picked : IsPicked c p.key = record {
       pressure = ap (λ b. c.evicting || b) (not_less (free_frames c) (none_free c room)) ∙ or_true c.evicting;
       picked = ap (option_map (λ (x : Pick). x.key)) is;
     } in
-    let old = oldest_picked c p.key rest picked in
+    let old = oldest_picked laws c p.key rest picked in
     let present : is_present c p.key ≡ true = ap is_some old.there in
-    let page = service_knows.present rest.history c p.key rest.stands present in
+    let page = laws.knows.present rest.history c p.key rest.stands present in
     let own : has_page c.setup old.page.key ≡ true = subst (λ (x : Key). has_page c.setup x ≡ true) (sym old.key) page in
     let found : pick c ≡ Some (pick_of old.page) = ap (λ rs. option_map pick_of (find (can_leave c) rs)) old.pages
-    ∙ ap (option_map pick_of) (cond-true (can_leave c old.page) (Some old.page) (find (can_leave c) old.rest) (leaves c rest old.page own)) in
+    ∙ ap (option_map pick_of) (cond-true (can_leave c old.page) (Some old.page) (find (can_leave c) old.rest) (leaves laws c rest old.page own)) in
     let one : Some (pick_of old.page) ≡ Some p = sym found ∙ is in
     let same_pick : pick_of old.page ≡ p = cc in
     record {
       page = page;
       present = present;
       dirty = ap dirties old.there ∙ ap (λ (x : Pick). x.dirty) same_pick;
-      home = rest.home p.key.region (page_region c.setup p.key page);
-      idle = idle_page c rest p.key page;
+      home = rest.home p.key.region (laws.pages.region c.setup p.key page);
+      idle = idle_page laws c rest p.key page;
       picks = record { room = room; picked = picked };
     }
 
-home_everywhere : (c : Core) (h : History Entry) → StandsFor h c → ((r : ℕ) → r < regions c.setup → is_home c r ≡ true) → (r : ℕ) → flight.is_home h r ≡ true
-home_everywhere c h st home r = at (flight.in_flight h r) refl
-  where
-    at : (t : Option flight.InFlight) → flight.in_flight h r ≡ t → is_none t ≡ true
-    at None e = refl
-    at (Some t) e =
-        let here : t.key.region ≡ r = flight_region h r t e in
-        let within : r < regions c.setup = subst (λ (x : ℕ). x < regions c.setup) here (page_region c.setup t.key (flight_page c.setup h r t st.legal e)) in
-        let homed : flight.is_home h r ≡ true = sym (home_is h c r st within) ∙ home r within in
-        let out : flight.is_home h r ≡ false = ap is_none e in
-        absurd cc
+home_everywhere : (laws : Laws) (c : Core) (h : History Entry) → StandsFor h c → ((r : ℕ) → r < regions c.setup → is_home c r ≡ true) → (r : ℕ) → r < regions c.setup → flight.is_home h r ≡ true
+home_everywhere laws c h st home r within = let reads = laws.agree.regions h c r st within in sym reads.home ∙ home r within
 
 -- there is one
-pub some_pick : (c : Core) → IsAtRest c → next c ≡ serve.Room → 0 < length c.queue → pick c ≡ None → ⊥
-some_pick c rest room waits none =
+pub some_pick : (laws : Laws) (c : Core) → IsAtRest c → next c ≡ serve.Room → 0 < length c.queue → pick c ≡ None → ⊥
+some_pick laws c rest room waits none =
     let h = rest.history in
-    let next_h : next_of c.setup h ≡ serve.Room = sym (next_is h c rest.stands) ∙ room in
-    let home_h : (r : ℕ) → flight.is_home h r ≡ true = λ r. home_everywhere c h rest.stands rest.home r in
+    let reads = laws.agree.stripe h c rest.stands in
+    let next_h : next_of c.setup h ≡ serve.Room = sym reads.next ∙ room in
     let some : 0 < length (pending h) = subst (λ (ps : List Raise). 0 < length ps) rest.stands.queue waits in
-    let ahead = something_is_next c.setup h rest.stands.fits rest.stands.legal home_h some in
+    let ahead = laws.next c.setup h rest.stands.fits rest.stands.legal (home_everywhere laws c h rest.stands rest.home) some in
     let victim_is = (ahead.room next_h).1 in
-    let pick_h : pick c ≡ Some (picked h victim_is.0) = pick_is h c rest.stands ∙ ap (option_map (picked h)) victim_is.1 in
+    let pick_h : pick c ≡ Some (picked h victim_is.0) = reads.pick ∙ ap (option_map (picked h)) victim_is.1 in
     cc
 
 -- while faults wait there is something to do
-pub something_next : (c : Core) → IsAtRest c → 0 < length c.queue → next c ≡ serve.Nothing → ⊥
-something_next c rest waits none =
+pub something_next : (laws : Laws) (c : Core) → IsAtRest c → 0 < length c.queue → next c ≡ serve.Nothing → ⊥
+something_next laws c rest waits none =
     let h = rest.history in
-    let next_h : next_of c.setup h ≡ serve.Nothing = sym (next_is h c rest.stands) ∙ none in
+    let reads = laws.agree.stripe h c rest.stands in
+    let next_h : next_of c.setup h ≡ serve.Nothing = sym reads.next ∙ none in
     let some : 0 < length (pending h) = subst (λ (ps : List Raise). 0 < length ps) rest.stands.queue waits in
-    (something_is_next c.setup h rest.stands.fits rest.stands.legal (λ r. home_everywhere c h rest.stands rest.home r) some).something next_h
+    (laws.next c.setup h rest.stands.fits rest.stands.legal (home_everywhere laws c h rest.stands rest.home) some).something next_h
 
-pub picks_home : (c : Core) (k : Key) → IsAtRest c → Picks c k → is_home c k.region ≡ true
-picks_home c k rest p =
-    let old = oldest_picked c k rest p.picked in
-    let page = service_knows.present rest.history c k rest.stands (ap is_some old.there) in
-    rest.home k.region (page_region c.setup k page)
+pub picks_home : (laws : Laws) (c : Core) (k : Key) → IsAtRest c → Picks c k → is_home c k.region ≡ true
+picks_home laws c k rest p =
+    let old = oldest_picked laws c k rest p.picked in
+    let page = laws.knows.present rest.history c k rest.stands (ap is_some old.there) in
+    rest.home k.region (laws.pages.region c.setup k page)

@@ -9,11 +9,11 @@ use Rattle.page_base.specs.Pages.{stripe_of}
 use Rattle.page_model.specs.Core.{Core}
 use Rattle.page_model.specs.Setups as setup
 use Rattle.page_model.specs.Setups.{Setup}
-use Rattle.page_model.proofs.Changes.{slice_set_same, slice_set_other, slice_set_length}
 use Rattle.serial_pager.specs.Seen.{StripeSeen}
 use Rattle.serial_pager.specs.Holdings as stripe
 use Rattle.serial_pager.specs.Pagers.{PagerSeen, group_in, page_in, core_in, held_in, owes_in, count_in, core_at, has_page, is_writable, may_store, stripe_at, held, owes, count_at, setup_at, journals_made, HoldsSame, CountsGrow}
-use Rattle.serial_pager.specs.Sound.{IsStripe}
+use Rattle.serial_pager.specs.InsideSound.{IsStripe}
+use Rattle.serial_pager.proofs.Lists.{slice_set_same, slice_set_other, slice_set_length}
 use Rattle.serial_pager.proofs.Unmade.{some_is}
 
 -- ---- which stripe a page lies in

@@ -13,22 +13,18 @@ use Rattle.page_model.specs.declared.entry.Entry.{Entry}
 use Rattle.page_model.specs.Core.{Core, Resident, Reading, dirties, is_closing, is_guarded, is_home, is_pending, is_present, is_servable, is_stale, free_frames, protects, waits_for_room, why_of_place, why_out, why_pending, why_or_read}
 use Rattle.page_model.specs.Readers.{ReadyToOpen, ReadyToRead}
 use Rattle.serial_pager.specs.declared.fault.PageFault.{PageFault}
+use Rattle.page_model.specs.Laws.{waits_for}
 use Rattle.page_model.specs.Faults.{is_write, is_protected_why, is_waiting, last_why, pending, served}
 use Rattle.page_model.specs.Stands.{StandsFor}
 use Rattle.page_model.specs.Steps as step
 use Rattle.page_model.specs.Steps.{on_page, filled_page, placed, without_page}
-use Rattle.page_model.proofs.Agreements.{present_is}
-use Rattle.page_model.proofs.Keys.{same-true, same_self}
-use Rattle.page_model.proofs.Known.{pending_whys}
-use Rattle.page_model.proofs.Lists.{find_passes, found_any, none_found}
-use Rattle.page_model.proofs.Members.{all_found, some_found}
-use Rattle.page_model.proofs.Nexts.{chosen_drop}
-use Rattle.page_model.proofs.Raises.{apart, waits_for}
 use Rattle.page_model.specs.Residents.{is_resident}
-use Rattle.page_model.proofs.Services.{service_knows}
 use Rattle.serial_pager.specs.Rests.{IsAtRest}
-use Rattle.serial_pager.specs.Services.{Drops, Opens, Fills, Misses, Cleans, Evicts, Raises, Serves}
+use Rattle.serial_pager.specs.InsideServices.{Drops, Opens, Fills, Misses, Cleans, Evicts, Raises, Serves}
 use Rattle.serial_pager.proofs.Asks.{raised_new}
+use Rattle.serial_pager.proofs.Keys.{same-true, same_self}
+use Rattle.serial_pager.proofs.Lists.{all_found, find_passes, found_any, none_found, some_found}
+use Rattle.serial_pager.proofs.ModelLaws.{Laws}
 use Rattle.serial_pager.proofs.Waits.{few_wait}
 use Rattle.serial_pager.proofs.Pages.{page_in, appended_here, appended_other, changed_here, changed_other, removed_fewer, removed_here, removed_other}
 use Rattle.serial_pager.proofs.Queues.{raise_in, raised_here, served_fewer, served_here, served_other}
@@ -46,9 +42,9 @@ waiting_some ps k e = go (raise_in ps k) refl (some_found (λ (p : Raise). same 
     go (Some p) is t = (p, is)
 
 -- the faults of one page that wait have one reason
-pub why_is : (h : History Entry) (c : Core) → StandsFor h c → (test : Raise → Bool) (p q : Raise) (k : Key) → find test c.queue ≡ Some p → p.key ≡ k → raise_in c.queue k ≡ Some q → q.why ≡ p.why
-why_is h c st test p q k found key of =
-    let all : AllByRecursion (λ (x : Raise). x.why ≡ last_why h x.key) c.queue = subst (λ ps. AllByRecursion (λ (x : Raise). x.why ≡ last_why h x.key) ps) (sym st.queue) (pending_whys c.setup h st.legal) in
+pub why_is : (laws : Laws) (h : History Entry) (c : Core) → StandsFor h c → (test : Raise → Bool) (p q : Raise) (k : Key) → find test c.queue ≡ Some p → p.key ≡ k → raise_in c.queue k ≡ Some q → q.why ≡ p.why
+why_is laws h c st test p q k found key of =
+    let all : AllByRecursion (λ (x : Raise). x.why ≡ last_why h x.key) c.queue = subst (λ ps. AllByRecursion (λ (x : Raise). x.why ≡ last_why h x.key) ps) (sym st.queue) (laws.whys c.setup h st.legal) in
     let one : p.why ≡ last_why h p.key = all_found (λ (x : Raise). x.why ≡ last_why h x.key) test c.queue p found all in
     let two : q.why ≡ last_why h q.key = all_found (λ (x : Raise). x.why ≡ last_why h x.key) (λ (x : Raise). same x.key k) c.queue q of all in
     let qk : q.key ≡ k = same-true q.key k (find_passes (λ (x : Raise). same x.key k) c.queue q of) in
@@ -70,7 +66,7 @@ guarded_page c k e = go (page_in c.pages k) refl e
 
 -- ---- a fault less
 
-module _ (stores : Bool) (k : Key) (c d : Core) (rest : IsAtRest c) where
+module _ (laws : Laws) (stores : Bool) (k : Key) (c d : Core) (rest : IsAtRest c) where
   -- the queue lost a page's faults, and what the access waits for beside it became no more
   queue_less : (j : Key) → is_pending c j ≡ true → d.queue ≡ served j c.queue
       → (page_in d.pages k ≡ page_in c.pages k ⊎ j ≡ k)
@@ -99,7 +95,7 @@ module _ (stores : Bool) (k : Key) (c d : Core) (rest : IsAtRest c) where
       queue_less w.key waits (ap (λ (x : Core). x.queue) w.is) (inl (ap (λ rs. page_in rs k) pages)) (λ jk. mine jk (ap (λ rs. page_in rs k) pages))
     where
       waits : is_pending c w.key ≡ true
-      waits = service_knows.drop rest.history c w.key rest.stands w.next
+      waits = laws.knows.drop rest.history c w.key rest.stands w.next
 
       least : (b : Bool) (why : Why) → is_protected_why why ≡ true → 1 ≤ own b None (Some (record { key = k; why = why }))
       least true Protected e = omega arith
@@ -118,7 +114,7 @@ module _ (stores : Bool) (k : Key) (c d : Core) (rest : IsAtRest c) where
 
       mine : w.key ≡ k → page_in d.pages k ≡ page_in c.pages k → own stores (page_in d.pages k) None ≤ own stores (page_in c.pages k) (raise_in c.queue k)
       mine jk same_page =
-          let n = chosen_drop (find (is_stale c) c.queue) (find (is_servable c) c.queue) (list_any (waits_for_room c) c.queue) w.key w.next in
+          let n = laws.chosen.drop (find (is_stale c) c.queue) (find (is_servable c) c.queue) (list_any (waits_for_room c) c.queue) w.key w.next in
           let p : Raise = n.0 in
           let key : p.key ≡ k = n.2 ∙ jk in
           let stale : is_stale c p ≡ true = find_passes (is_stale c) c.queue p n.1 in
@@ -130,7 +126,7 @@ module _ (stores : Bool) (k : Key) (c d : Core) (rest : IsAtRest c) where
           let gone : is_present c k ≡ false = subst (λ (x : Key). is_present c x ≡ false) key (not_true (is_present c p.key) parts.1) in
           let page : page_in c.pages k ≡ None = absent_page c k gone in
           let of = waiting_some c.queue k (subst (λ (x : Key). is_pending c x ≡ true) jk waits) in
-          let same_why : of.0.why ≡ p.why = why_is rest.history c rest.stands (is_stale c) p of.0 k n.1 key of.1 in
+          let same_why : of.0.why ≡ p.why = why_is laws rest.history c rest.stands (is_stale c) p of.0 k n.1 key of.1 in
           let prot : is_protected_why of.0.why ≡ true = rw same_why parts.0 in
           rw (same_page, page, of.1, own_none stores, own_why stores of.0) (least stores of.0.why prot)
         where
@@ -149,7 +145,7 @@ module _ (stores : Bool) (k : Key) (c d : Core) (rest : IsAtRest c) where
       opened r = record r { protected = false; dirty = true }
 
       ready : ReadyToOpen c w.key
-      ready = service_knows.open_ rest.history c w.key rest.stands w.next
+      ready = laws.knows.open_ rest.history c w.key rest.stands w.next
 
       pages : d.pages ≡ on_page w.key opened c.pages
       pages = ap (λ (x : Core). x.pages) w.is
@@ -172,7 +168,7 @@ module _ (stores : Bool) (k : Key) (c d : Core) (rest : IsAtRest c) where
       ]) mine
     where
       ready : ReadyToRead rest.history c w.key
-      ready = service_knows.read rest.history c w.key rest.stands w.next
+      ready = laws.knows.read rest.history c w.key rest.stands w.next
 
       why : Why
       why = why_out (step.start_read c w.key) w.key
@@ -194,7 +190,7 @@ module _ (stores : Bool) (k : Key) (c d : Core) (rest : IsAtRest c) where
       mine jk =
           let page : page_in c.pages k ≡ None = absent_page c k (subst (λ (x : Key). is_present c x ≡ false) jk ready.absent) in
           let of = waiting_some c.queue k (subst (λ (x : Key). is_pending c x ≡ true) jk ready.pending) in
-          let here = (service_knows.here c w.key.region ready.home).1 in
+          let here = (laws.knows.here c w.key.region ready.home).1 in
           let out : why ≡ why_pending c w.key = ap why_of_place (on_region_here w.key.region (placed (Reading w.key c.events (why_pending c w.key))) c.regions here.region here.is) in
           let same_why : why ≡ of.0.why = out ∙ (ap (why_pending c) jk ∙ ap why_or_read of.1) in
           let now : page_in d.pages k ≡ Some new = ap (λ rs. page_in rs k) pages ∙ appended_here c.pages new k page (subst (λ (x : Key). same w.key x ≡ true) jk (same_self w.key)) in
@@ -202,7 +198,7 @@ module _ (stores : Bool) (k : Key) (c d : Core) (rest : IsAtRest c) where
 
   pub misses_fewer : (f : PageFault) → (f.key ≡ k → ⊥) → Misses c d f → turns_left stores d k < turns_left stores c k
   misses_fewer f ne w =
-      let ready = service_knows.read rest.history c f.key rest.stands w.next in
+      let ready = laws.knows.read rest.history c f.key rest.stands w.next in
       let pages : d.pages ≡ c.pages = ap (λ (x : Core). x.pages) w.is in
       queue_less f.key ready.pending (ap (λ (x : Core). x.queue) w.is) (inl (ap (λ rs. page_in rs k) pages)) (λ jk. absurd (ne jk))
 
@@ -222,7 +218,7 @@ cleaned_room f g k r rs keeps clean e =
     let twice : cond (same (f r).key k) (g (f r)) (f r) ≡ g (f r) = cond-true (same (f r).key k) (g (f r)) (f r) there in
     ap (λ (x : Resident). cond (cond (same x.key k) (g x) x).dirty 2 1) once ∙ (ap (λ (x : Resident). cond x.dirty 2 1) twice ∙ ap (λ b. cond b 2 1) clean)
 
-module _ (stores : Bool) (k : Key) (c d : Core) (rest : IsAtRest c) where
+module _ (laws : Laws) (stores : Bool) (k : Key) (c d : Core) (rest : IsAtRest c) where
   pub cleans_fewer : Cleans c d → misses stores (page_in c.pages k) ≡ true → turns_left stores d k < turns_left stores c k
   cleans_fewer w miss =
       let queue : d.queue ≡ c.queue = ap (λ (x : Core). x.queue) w.writes.is in
@@ -230,7 +226,7 @@ module _ (stores : Bool) (k : Key) (c d : Core) (rest : IsAtRest c) where
       (falls_by_room (length c.queue) (own stores (page_in d.pages k) (raise_in c.queue k)) (own stores (page_in c.pages k) (raise_in c.queue k)) (room d) (room c) mine roomier)
     where
       old : Oldest c w.key
-      old = oldest_picked c w.key rest w.picks.picked
+      old = oldest_picked laws c w.key rest w.picks.picked
 
       begun : Resident → Resident
       begun r = record r { protected = true }
@@ -288,7 +284,7 @@ module _ (stores : Bool) (k : Key) (c d : Core) (rest : IsAtRest c) where
       (falls_by_room (length c.queue) (own stores (page_in d.pages k) (raise_in c.queue k)) (own stores (page_in c.pages k) (raise_in c.queue k)) (room d) (room c) mine roomier)
     where
       old : Oldest c w.key
-      old = oldest_picked c w.key rest w.picks.picked
+      old = oldest_picked laws c w.key rest w.picks.picked
 
       pages : d.pages ≡ without_page w.key c.pages
       pages = ap (λ (x : Core). x.pages) w.is
@@ -299,7 +295,7 @@ module _ (stores : Bool) (k : Key) (c d : Core) (rest : IsAtRest c) where
       some_free : nat_lt 0 (free_frames d) ≡ true
       some_free =
           let fewer = removed_fewer w.key c.pages old.page old.there in
-          let within = service_knows.within rest.history c rest.stands in
+          let within = laws.knows.within rest.history c rest.stands in
           let some : 0 < free_frames (step.evict c w.key) = omega (arith, fewer, within) in
           ap (nat_lt 0) free_now ∙ lt-ltb 0 (free_frames (step.evict c w.key)) some
 
@@ -325,8 +321,8 @@ module _ (stores : Bool) (k : Key) (c d : Core) (rest : IsAtRest c) where
           at false reads e f =
               let waits : list_any (waits_for k) (pending rest.history) ≡ true = subst (λ (ps : List Raise). list_any (waits_for k) ps ≡ true) rest.stands.queue
               (found_any (λ (x : Raise). same x.key k) (waits_for k) c.queue p of (rw (reads, find_passes (λ (x : Raise). same x.key k) c.queue p of) refl)) in
-              let resident : is_resident rest.history k ≡ true = sym (present_is rest.history c k rest.stands) ∙ ap is_some (subst (λ (x : Key). page_in c.pages x ≡ Some old.page) jk old.there) in
-              (apart c.setup rest.history k rest.stands.legal).wait_absent waits resident
+              let resident : is_resident rest.history k ≡ true = sym (laws.show.present rest.history c k rest.stands) ∙ ap is_some (subst (λ (x : Key). page_in c.pages x ≡ Some old.page) jk old.there) in
+              let absent = laws.waiting.waiting c.setup rest.history k rest.stands.legal waits in cc
 
       own_gone : (b : Bool) (r : Resident) (raise : Option Raise) → misses b (Some r) ≡ true → ((p : Raise) → r.protected ≡ true → raise ≡ Some p → ⊥) → own b None raise ≤ own b (Some r) raise
       own_gone true r None e f = let x : own true (Some r) None ≡ 1 = own_missing true (Some r) e in omega (arith, x)
@@ -368,18 +364,18 @@ raises_no_more stores k why c d w miss right = elim w [
 ]
 
 -- what serves an access that misses leaves it fewer turns
-pub serves_fewer : (stores : Bool) (k : Key) (c d : Core) → IsAtRest c → Serves k c d → misses stores (page_in c.pages k) ≡ true → turns_left stores d k < turns_left stores c k
-serves_fewer stores k c d rest w miss = elim w [
-  | inl drops ↦ drops_fewer stores k c d rest drops
+pub serves_fewer : (laws : Laws) (stores : Bool) (k : Key) (c d : Core) → IsAtRest c → Serves k c d → misses stores (page_in c.pages k) ≡ true → turns_left stores d k < turns_left stores c k
+serves_fewer laws stores k c d rest w miss = elim w [
+  | inl drops ↦ drops_fewer laws stores k c d rest drops
   | inr x ↦ elim x [
-    | inl opens ↦ opens_fewer stores k c d rest opens
+    | inl opens ↦ opens_fewer laws stores k c d rest opens
     | inr y ↦ elim y [
-      | inl fills ↦ fills_fewer stores k c d rest fills
+      | inl fills ↦ fills_fewer laws stores k c d rest fills
       | inr z ↦ elim z [
-        | inl other ↦ misses_fewer stores k c d rest other.0 other.1.0 other.1.1
+        | inl other ↦ misses_fewer laws stores k c d rest other.0 other.1.0 other.1.1
         | inr u ↦ elim u [
-          | inl cleans ↦ cleans_fewer stores k c d rest cleans miss
-          | inr evicts ↦ evicts_fewer stores k c d rest evicts miss
+          | inl cleans ↦ cleans_fewer laws stores k c d rest cleans miss
+          | inr evicts ↦ evicts_fewer laws stores k c d rest evicts miss
         ]
       ]
     ]
@@ -387,9 +383,9 @@ serves_fewer stores k c d rest w miss = elim w [
 ]
 
 -- at most so many turns
-pub few_turns : (stores : Bool) (c : Core) (k : Key) → IsAtRest c → turns_left stores c k ≤ 16390
-few_turns stores c k rest =
-    let few = few_wait c rest in
+pub few_turns : (laws : Laws) (stores : Bool) (c : Core) (k : Key) → IsAtRest c → turns_left stores c k ≤ 16390
+few_turns laws stores c k rest =
+    let few = few_wait laws c rest in
     let one = own_most stores (page_in c.pages k) (raise_in c.queue k) in
     let two = room_most (nat_lt 0 (free_frames c)) c.pages in
     omega (arith, few, one, two)

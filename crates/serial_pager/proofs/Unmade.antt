@@ -15,7 +15,7 @@ use Rattle.page_model.specs.Stands.{StandsFor, HomeLane}
 use Rattle.serial_pager.specs.Seen.{StripeSeen}
 use Rattle.serial_pager.specs.Rests.{IsAtRest}
 use Rattle.serial_pager.specs.Pagers.{AreLanesOf, rows_by}
-use Rattle.serial_pager.specs.Sound.{HandsBack}
+use Rattle.serial_pager.specs.InsideSound.{HandsBack}
 
 pub map_append : {A B : Type 0} (f : A → B) (xs ys : List A) → map f (xs ++ ys) ≡ map f xs ++ map f ys
 map_append f [] ys = refl

@@ -20,9 +20,3 @@ module _ {J : Type 0} where
     pub before : List Entry
     pub pass : list_all passes before ≡ true
     pub went : Went has_noted (last ∷ before) old new
-
-  -- By entries that all pass a test.
-  pub record WentBy (has_noted : J → History Entry → Type 0) (passes : Entry → Bool) (old new : StripeSeen J) : Type 0 where
-    pub entries : List Entry
-    pub pass : list_all passes entries ≡ true
-    pub went : Went has_noted entries old new

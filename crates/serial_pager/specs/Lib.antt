@@ -2,8 +2,10 @@ pub mod Seen
 pub mod Holdings
 pub mod Rests
 pub mod Goings
+pub mod InsideGoings
 pub mod Accesses
 pub mod Writings
-pub mod Services
+pub mod InsideServices
 pub mod Pagers
 pub mod Sound
+pub mod InsideSound

@@ -9,12 +9,14 @@ ghost use Rattle.page_model.specs.Setups.{has_page, is_writable};
 ghost use Rattle.page_model.specs.Steps as step;
 ghost use Rattle.stripe_core.specs.Answers.{GivesBytes};
 ghost use Rattle.serial_pager.specs.Accesses.{serves, is_read, NamesCount, AccessFails};
-ghost use Rattle.serial_pager.specs.Goings.{Went, WentBy, WentTo};
+ghost use Rattle.serial_pager.specs.Goings.{Went, WentTo};
+ghost use Rattle.serial_pager.specs.InsideGoings.{WentBy};
 ghost use Rattle.serial_pager.specs.Holdings.{held, owes, owes_with, is_for_store, CountsGrow, HoldsSame};
 ghost use Rattle.serial_pager.specs.Rests.{IsAtRest};
-ghost use Rattle.serial_pager.specs.Services.{Raises, is_shut, why_shut};
+ghost use Rattle.serial_pager.specs.InsideServices.{Raises, is_shut, why_shut};
 
 use crate::fault::PageFault;
+use crate::laws::model_laws;
 use crate::stripe::SerialStripe;
 use page_base::{Key, Why};
 use page_model::{Journal, Note};
@@ -52,6 +54,7 @@ impl<S: Store, J: Journal> SerialStripe<S, J> {
         ensures fault { IfErr result (λ f. NamesCount self.old.core self.new.core f) }
         ensures counts { CountsGrow self.old.core self.new.core }
     {
+        model_laws();
         while !self.loaded(key, place, buf) {
             match self.serve(scratch, key) {
                 Ok(()) => {}
@@ -92,6 +95,7 @@ impl<S: Store, J: Journal> SerialStripe<S, J> {
         ensures fault { IfErr result (λ f. NamesCount self.old.core self.new.core f) }
         ensures counts { CountsGrow self.old.core self.new.core }
     {
+        model_laws();
         while !self.saved(key, place, bytes) {
             match self.serve(scratch, key) {
                 Ok(()) => {}

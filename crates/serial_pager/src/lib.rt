@@ -16,6 +16,7 @@
 
 mod accesses;
 mod fault;
+mod laws;
 mod pager;
 #[cfg(test)]
 mod pager_tests;

@@ -1,14 +1,15 @@
 //! A pager of one thread: the stripes of a buffer, each with its journal, and one scratch page for all of them.
 //!
 //! What must stay true when this file is changed: stripe s of the list was made as stripe s of the layout, with the shapes of
-//! all regions; and each piece makes at most 2^16 entries, so that no stripe comes to 2^62 of them (`specs/Sound.antt`).
+//! all regions; and each piece makes at most 2^16 entries, so that no stripe comes to 2^62 of them (`specs/InsideSound.antt`).
 ghost use Rattle.std.specs.Prelude.{◌≡◌, ◌≤◌, ◌+◌, ℕ, true, [], ◌++◌, length, map, reverse, slice_get, Some, vec_len, vec_capacity, IfOk, IfErr};
 ghost use Rattle.page_base.specs.declared.keys.Key.{Key};
 ghost use Rattle.page_model.specs.Setups.{told_by};
 ghost use Rattle.serial_pager.specs.Pagers.{rows_by, rows_of, CanOpen, IsOpened, AreRowsOf, has_page, stripe_at, kept};
 ghost use Rattle.serial_pager.specs.Rests.{IsAtRest};
-ghost use Rattle.serial_pager.specs.Sound.{HandsBack};
+ghost use Rattle.serial_pager.specs.InsideSound.{HandsBack};
 
+use crate::laws::model_laws;
 use crate::stripe::SerialStripe;
 use page_base::{Layout, List, RegionShape};
 use page_model::Journal;
@@ -54,7 +55,8 @@ impl<S: Store, J: Journal> Model for SerialPager<S, J> {
     ghost Value = { PagerSeen J };
 
     ghost use Rattle.std.specs.Prelude.{◌≡◌, ◌≤◌, [], length, vec_len, vec_capacity};
-    ghost use Rattle.serial_pager.specs.Sound.{seen_of, IsSound};
+    ghost use Rattle.serial_pager.specs.Sound.{seen_of};
+    ghost use Rattle.serial_pager.specs.InsideSound.{IsSound};
 
     ghost view = { λ p. seen_of p.config p.stripes.items p.spent };
 
@@ -160,6 +162,7 @@ impl<S: Store, J: Journal> SerialPager<S, J> {
         ensures told { (k : Key) (row : _) → has_page self k ≡ true → slice_get (rows_of S.seen result.0) (stripe_at self k) ≡ Some row → told_by (slice_get row k.region) k.page ≡ kept self k }
         ensures journals { result.1.items ≡ map (λ x. x.journal) self.stripes }
     {
+        model_laws();
         let SerialPager {
             stripes,
             scratch: _,

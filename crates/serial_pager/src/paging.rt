@@ -8,10 +8,11 @@ ghost use Rattle.serial_pager.specs.Goings.{WentTo};
 ghost use Rattle.serial_pager.specs.Holdings as one;
 ghost use Rattle.serial_pager.specs.Holdings.{is_for_store};
 ghost use Rattle.page_model.specs.Setups.{regions};
-ghost use Rattle.serial_pager.specs.Sound.{MayFlush, Flushes, FlushesAll, SomeRose};
+ghost use Rattle.serial_pager.specs.InsideSound.{MayFlush, Flushes, FlushesAll, SomeRose};
 ghost use Rattle.serial_pager.specs.Pagers.{IsPiece, IsSame, IsWithin, OnStripe, WroteDirty, journals_made, HoldsSame, CountsGrow, NamesFault, RoseAt, IsTried, IsKept, has_page, is_writable, stripe_at, held, kept, owes};
 
 use crate::fault::PageFault;
+use crate::laws::model_laws;
 use crate::pager::SerialPager;
 use crate::stripe::SerialStripe;
 use page_base::Key;
@@ -150,6 +151,7 @@ impl<S: Store, J: Journal> SerialPager<S, J> {
     pub fn unowed_is_kept(&self)
         ensures kept { (k : Key) → has_page self.now k ≡ true → owes self.now k ≡ false → IfSome (held self.now k) (λ bytes. kept self.now k ≡ Some bytes) }
     {
+        model_laws();
         let _ = &self.stripes;
     }
 }

@@ -10,11 +10,13 @@ ghost use Rattle.page_model.specs.Events.{CanRaiseFor, CanStartWrite, CanEvict};
 ghost use Rattle.page_model.specs.Setups.{has_page};
 ghost use Rattle.page_model.specs.Steps as step;
 ghost use Rattle.serial_pager.specs.Accesses.{serves, AccessFails};
-ghost use Rattle.serial_pager.specs.Goings.{Went, WentBy};
+ghost use Rattle.serial_pager.specs.Goings.{Went};
+ghost use Rattle.serial_pager.specs.InsideGoings.{WentBy};
 ghost use Rattle.serial_pager.specs.Rests.{IsAtRest};
-ghost use Rattle.serial_pager.specs.Services.{Drops, Opens, Fills, Misses, Writes, FailsToWrite, Cleans, FailsToClean, Evicts, Raises, Serves, Faults};
+ghost use Rattle.serial_pager.specs.InsideServices.{Drops, Opens, Fills, Misses, Writes, FailsToWrite, Cleans, FailsToClean, Evicts, Raises, Serves, Faults};
 
 use crate::fault::PageFault;
+use crate::laws::model_laws;
 use crate::stripe::SerialStripe;
 use page_base::{Key, Why};
 use page_model::{Cause, Journal, Next, Note};
@@ -34,6 +36,7 @@ impl<S: Store, J: Journal> SerialStripe<S, J> {
         ensures steps { Raises key why self.old.core self.new.core }
         ensures went { (reasons : Why → Bool) → reasons why ≡ true → WentBy J.has_noted (serves key reasons) self.old self.new }
     {
+        model_laws();
         match self.stripe.raise(key, why) {
             Raise::Raised => self.journal.note(0, &Note::Raised { key, why }),
             Raise::Pending | Raise::QueueFull => {}
@@ -53,6 +56,7 @@ impl<S: Store, J: Journal> SerialStripe<S, J> {
         ensures fault { IfErr result (λ f. Faults key self.old.core self.new.core f) }
         ensures ends { IfErr result (λ f. (reasons : Why → Bool) → AccessFails J.has_noted key reasons (is_dirty self.old.core) self.old self.new f) }
     {
+        model_laws();
         match self.stripe.next() {
             Next::Drop(_) => {
                 self.drop_raise();
@@ -126,6 +130,7 @@ impl<S: Store, J: Journal> SerialStripe<S, J> {
         ensures fault { IfErr result (λ f. Misses self.old.core self.new.core f) }
         ensures ends { IfErr result (λ f. Went J.has_noted (entry.ReadFailed f.key f.faults ∷ entry.StartRead f.key ∷ []) self.old self.new) }
     {
+        model_laws();
         let mut trip = self.stripe.start_read();
         let key = trip.key();
         self.journal.note(0, &Note::StartRead { key });
@@ -159,6 +164,7 @@ impl<S: Store, J: Journal> SerialStripe<S, J> {
         ensures fault { IfErr result (λ f. FailsToClean self.old.core self.new.core f) }
         ensures ends { IfErr result (λ f. Went J.has_noted (entry.WriteFailed f.key f.faults ∷ entry.StartWrite f.key Pressure ∷ []) self.old self.new) }
     {
+        model_laws();
         match self.stripe.pick() {
             Some(pick) if pick.dirty => self.write_out(scratch, pick.key, Cause::Pressure),
             Some(pick) => {
@@ -188,6 +194,7 @@ impl<S: Store, J: Journal> SerialStripe<S, J> {
         ensures fault { IfErr result (λ f. FailsToWrite key self.old.core self.new.core f) }
         ensures ends { IfErr result (λ f. Went J.has_noted (entry.WriteFailed key f.faults ∷ entry.StartWrite key why ∷ []) self.old self.new) }
     {
+        model_laws();
         let mut trip = self.stripe.start_write(key, why, scratch);
         self.journal.note(0, &Note::StartWrite { key, why });
         let at = trip.at();

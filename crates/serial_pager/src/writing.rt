@@ -7,6 +7,7 @@ ghost use Rattle.serial_pager.specs.Holdings.{CountsGrow, HoldsSame, IsClean, Is
 ghost use Rattle.serial_pager.specs.Rests.{IsAtRest, IsConfigOf};
 ghost use Rattle.serial_pager.specs.Writings.{WroteBack, RoseAt, IsTried};
 
+use crate::laws::model_laws;
 use crate::stripe::SerialStripe;
 use page_base::{Key, RegionShape};
 use page_model::{Cause, Journal};
@@ -33,6 +34,7 @@ impl<S: Store, J: Journal> SerialStripe<S, J> {
         ensures failed { result ≡ true → (r : ℕ) × RoseAt self.old.core self.new.core r }
         ensures stored { result ≡ false → (r : ℕ) → r < regions self.old.core.setup → IsStored self.new.core r }
     {
+        model_laws();
         let mut failed = false;
         for region in 0..config.shapes.len() {
             let shape = config.shapes.get(region);
@@ -93,6 +95,7 @@ impl<S: Store, J: Journal> SerialStripe<S, J> {
         ensures failed { result ≡ true → RoseAt self.old.core self.new.core key.region }
         ensures written { result ≡ false → is_dirty self.new.core key ≡ false }
     {
+        model_laws();
         self.stripe.is_dirty(key) && self.write_out(scratch, key, Cause::Flush).is_err()
     }
 }

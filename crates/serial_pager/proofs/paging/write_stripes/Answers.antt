@@ -1,7 +1,7 @@
 use Rattle.std.proofs.Common.{◌≡◌, ◌⊎◌, inl, inr, true, false, length, Some, slice_get, refl, sym, ap, ◌∙◌, arith}
 use Rattle.std.proofs.lemmas.Option.{slice_get_read, slice_get_within}
 use Rattle.stripe_core.specs.declared.config.StripeConfig.{StripeConfig}
-use Rattle.serial_pager.specs.Sound.{Flushes}
+use Rattle.serial_pager.specs.InsideSound.{Flushes}
 use Rattle.serial_pager.proofs.Flushing.{entries_more, entries_none, flag_is, flushing_none, flushing_more, tells}
 use Rattle.serial_pager.proofs.Stripes.{map_set}
 use Rattle.serial_pager.proofs.paging.write_stripes.Goals as goal

@@ -1,5 +1,5 @@
 use Rattle.std.proofs.Common.{◌≡◌, ℕ, map}
-use Rattle.serial_pager.specs.Sound.{FlushesAll}
+use Rattle.serial_pager.specs.InsideSound.{FlushesAll}
 use Rattle.serial_pager.proofs.Flushing.{Flushing}
 use Rattle.serial_pager.proofs.paging.write_stripes.Given as goal
 

@@ -1,6 +1,5 @@
 use Rattle.std.proofs.Common.{◌≡◌, inl, inr, ◌+◌, length, IfSome, OnOk, IfErr, slice_set, slice_range, sym, ap, subst, ◌∙◌, arith}
 use Rattle.page_model.specs.declared.entry.Entry.TheVariants as entry
-use Rattle.page_model.proofs.Changes.{slice_set_length}
 use Rattle.serial_pager.specs.Seen.{StripeSeen}
 use Rattle.serial_pager.specs.Accesses.{is_read, serves, AccessFails}
 use Rattle.serial_pager.specs.Goings.{WentTo}
@@ -8,6 +7,7 @@ use Rattle.serial_pager.specs.Holdings as stripe
 use Rattle.serial_pager.specs.Holdings.{is_for_store}
 use Rattle.serial_pager.specs.Pagers.{OnStripe}
 use Rattle.serial_pager.specs.Sound.{seen_of}
+use Rattle.serial_pager.proofs.Lists.{slice_set_length}
 use Rattle.serial_pager.proofs.Stripes.{stripe_of_pages, held_same, held_was, owes_same, counts_grow, journals_same}
 use Rattle.serial_pager.proofs.Pieces.{touched, piece_in_page, access_setup, sound_on, same_on, on_stripe, names_on, few_is, within_of, on_ok, if_err}
 use Rattle.serial_pager.proofs.pager.SerialPager.load.Goals as goal

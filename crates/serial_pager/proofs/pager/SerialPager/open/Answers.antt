@@ -6,7 +6,8 @@ use Rattle.page_model.specs.Core.{Core}
 use Rattle.page_model.specs.Stands.{StandsFor}
 use Rattle.stripe_core.specs.declared.config.StripeConfig.{StripeConfig}
 use Rattle.serial_pager.specs.Pagers.{rows_by, rows_of}
-use Rattle.serial_pager.specs.Sound.{seen_of, HandsBack}
+use Rattle.serial_pager.specs.Sound.{seen_of}
+use Rattle.serial_pager.specs.InsideSound.{HandsBack}
 use Rattle.serial_pager.proofs.Opening.{making_more, can_next, lengths, rows_back, sound_open, opened}
 use Rattle.serial_pager.proofs.Unmade.{none_left, map_reverse, no_item}
 use Rattle.serial_pager.proofs.pager.SerialPager.open.Goals as goal

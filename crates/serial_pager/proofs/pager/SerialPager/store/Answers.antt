@@ -2,7 +2,6 @@ use Rattle.std.proofs.Common.{◌≡◌, ◌+◌, length, OnOk, IfErr, slice_set
 use Rattle.std.specs.Option.{option_map}
 use Rattle.page_base.specs.ListSeen.{spliced}
 use Rattle.page_model.specs.declared.entry.Entry.TheVariants as entry
-use Rattle.page_model.proofs.Changes.{slice_set_length}
 use Rattle.serial_pager.specs.Seen.{StripeSeen}
 use Rattle.serial_pager.specs.Accesses.{serves, AccessFails}
 use Rattle.serial_pager.specs.Goings.{WentTo}
@@ -10,6 +9,7 @@ use Rattle.serial_pager.specs.Holdings as stripe
 use Rattle.serial_pager.specs.Holdings.{is_for_store}
 use Rattle.serial_pager.specs.Pagers.{OnStripe}
 use Rattle.serial_pager.specs.Sound.{seen_of}
+use Rattle.serial_pager.proofs.Lists.{slice_set_length}
 use Rattle.serial_pager.proofs.Stripes.{stripe_of_pages, writable_stripe, held_same, held_others, held_here, held_was, owes_same, counts_grow, journals_same}
 use Rattle.serial_pager.proofs.Pieces.{touched, piece_in_page, access_setup, sound_on, same_on, on_stripe, names_on, few_is, within_of, on_ok, on_err, if_err, with_owed}
 use Rattle.serial_pager.proofs.pager.SerialPager.store.Goals as goal

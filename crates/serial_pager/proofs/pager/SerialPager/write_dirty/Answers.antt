@@ -1,6 +1,7 @@
 use Rattle.std.proofs.Common.{◌≡◌, ℕ, ◌+◌, ◌<◌, length, map, Some, slice_get, sym, ap, subst, ◌∙◌, arith}
 use Rattle.serial_pager.specs.Seen.{StripeSeen}
-use Rattle.serial_pager.specs.Sound.{seen_of, IsSound, Flushes, SomeRose}
+use Rattle.serial_pager.specs.Sound.{seen_of}
+use Rattle.serial_pager.specs.InsideSound.{IsSound, Flushes, SomeRose}
 use Rattle.serial_pager.proofs.Flushed.{same, sound_after, held_after, owes_after, counts_after, tried_after, failed_after, stored_after}
 use Rattle.serial_pager.proofs.Pieces.{within_of}
 use Rattle.serial_pager.proofs.pager.SerialPager.write_dirty.Goals as goal

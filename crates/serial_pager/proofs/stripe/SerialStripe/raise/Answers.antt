@@ -2,14 +2,14 @@ use Rattle.std.proofs.Common.{Bool, ap, false, inl, inr, refl, subst, sym, true,
 use Rattle.page_base.specs.Pages.{same}
 use Rattle.page_model.specs.declared.entry.Entry.TheVariants as entry
 use Rattle.page_model.specs.Core.{Core}
-use Rattle.page_model.proofs.Keys.{same_self}
 use Rattle.stripe_core.specs.Answers.{raise_answer}
 use Rattle.stripe_core.specs.declared.answers.Raise.{Raise}
 use Rattle.stripe_core.specs.declared.answers.Raise.TheVariants as raise
 use Rattle.serial_pager.specs.Accesses.{serves}
-use Rattle.serial_pager.specs.Goings.{WentBy}
+use Rattle.serial_pager.specs.InsideGoings.{WentBy}
 use Rattle.serial_pager.specs.Rests.{IsAtRest}
 use Rattle.serial_pager.proofs.Goes.{by_none, by_these, seen, went_once}
+use Rattle.serial_pager.proofs.Keys.{same_self}
 use Rattle.serial_pager.proofs.Rests.{rests_alike}
 use Rattle.serial_pager.proofs.Asks.{unraised_waits}
 use Rattle.serial_pager.proofs.stripe.SerialStripe.raise.Goals as goal
@@ -48,7 +48,7 @@ returns-in-Pending g c =
     record {
       rest = subst IsAtRest (sym core) c.requires.rest;
       made = ap (λ v. g.J.Journal.made_with v.journal) c.self.view_is;
-      waits = subst (λ (x : Core). 0 < length x.queue) (sym core) (unraised_waits c.args.self.now.core c.args.key c.requires.rest c.requires.page answer);
+      waits = subst (λ (x : Core). 0 < length x.queue) (sym core) (unraised_waits c.model_laws.ensures c.args.self.now.core c.args.key c.requires.rest c.requires.page answer);
       steps = inr (answer, core);
       went = λ reasons ok. subst (λ v. WentBy g.J.Journal.has_noted (serves c.args.key reasons) c.args.self.now v) (sym new_is) (by_none g.J.Journal.has_noted (serves c.args.key reasons) c.args.self.now);
     }

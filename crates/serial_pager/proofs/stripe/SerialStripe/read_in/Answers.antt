@@ -10,7 +10,7 @@ use Rattle.page_model.specs.Setups.{Setup}
 use Rattle.page_model.specs.Stands.{StandsFor}
 use Rattle.page_model.specs.Trips.{IsOpenRead}
 use Rattle.serial_pager.specs.Rests.{IsAtRest}
-use Rattle.serial_pager.specs.Services.{Fills, Misses}
+use Rattle.serial_pager.specs.InsideServices.{Fills, Misses}
 use Rattle.serial_pager.proofs.Goes.{went_trip}
 use Rattle.serial_pager.proofs.Places.{place_of, page_there, read_holds}
 use Rattle.serial_pager.proofs.Returns.{makes_fills, makes_misses, rests_filled, rests_missed}
@@ -69,7 +69,7 @@ returns-in-Ok-clause-rest g c =
     let later = c.in-Ok.ensures.cause.later in
     let same = ap (λ (l : LaneSeen). l.count) (c.lane.ensures.value ∙ start.lane) in
     let fills : Fills c.self.inside.stripe c.filled.new.self = makes_fills c.self.inside.stripe c.start_read-trip.new.self c.filled.new.self key c.start_read-trip.result.start.taken _ start.here c.read_from_store.new.buf start.next (omega (arith, later, same)) start.step c.filled.ensures.step in
-    rests_filled c.self.inside.stripe c.filled.new.self rest _ st fills
+    rests_filled c.model_laws.ensures c.self.inside.stripe c.filled.new.self rest _ st fills
 
 pub returns-in-Ok-clause-went : goal.returns-in-Ok-clause-went
 returns-in-Ok-clause-went g c =
@@ -107,7 +107,7 @@ returns-in-Err-clause-rest g c =
     let same = ap (λ (l : LaneSeen). l.count) (c.lane.ensures.value ∙ start.lane) in
     let risen : Rose c.start_read-trip.result.start.taken.count (g.S.Store.seen c.read_from_store.new.self).count = subst (λ (l : LaneSeen). Rose l.count (g.S.Store.seen c.read_from_store.new.self).count) (c.lane.ensures.value ∙ start.lane) rose in
     let misses : Misses c.self.inside.stripe c.read_failed.new.self (record { key = c.key-key.result; faults = c.faults-faults.result }) = makes_misses c.self.inside.stripe c.start_read-trip.new.self c.read_failed.new.self key c.start_read-trip.result.start.taken _ start.here _ c.key-key.ensures c.faults-faults.ensures start.next (omega (arith, later, same)) risen start.step c.read_failed.ensures.step in
-    rests_missed c.self.inside.stripe c.read_failed.new.self rest _ st _ misses
+    rests_missed c.model_laws.ensures c.self.inside.stripe c.read_failed.new.self rest _ st _ misses
 
 pub returns-in-Err-clause-ends : goal.returns-in-Err-clause-ends
 returns-in-Err-clause-ends g c =

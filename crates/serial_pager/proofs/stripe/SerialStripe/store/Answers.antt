@@ -7,9 +7,9 @@ use Rattle.page_base.specs.Pages.{same}
 use Rattle.page_model.specs.declared.entry.Entry.TheVariants as entry
 use Rattle.page_model.specs.Core.{Core}
 use Rattle.page_model.specs.Steps as step
-use Rattle.page_model.proofs.Keys.{same_self}
 use Rattle.serial_pager.specs.Holdings.{CountsGrow, held, is_for_store, owes, owes_with}
-use Rattle.serial_pager.specs.Services.{why_shut}
+use Rattle.serial_pager.specs.InsideServices.{why_shut}
+use Rattle.serial_pager.proofs.Keys.{same_self}
 use Rattle.serial_pager.proofs.Loops.{asks_store, failed_access, failed_counts, failed_events, failed_holds, failed_names, failed_owes, failed_setup, raises_events, saved_elsewhere, saved_here, saved_owes, turned_few, turned_holds, turned_less, turned_none, turned_once, turned_to}
 use Rattle.serial_pager.proofs.stripe.SerialStripe.store.Goals as goal
 
@@ -19,26 +19,26 @@ self_owed c k = or_right (owes c k) (same k k) (same_self k)
 
 pub saved-requires-clause-few : goal.saved-requires-clause-few
 saved-requires-clause-few g c =
-    let few = turned_few g.J.Journal.has_noted true is_for_store c.args.key (owes_with c.args.self.now.core c.args.key) c.args.self.now c.loop-key.self c.requires.rest c.loop-key.invariant.turned in
+    let few = turned_few g.J.Journal.has_noted true is_for_store c.args.key (owes_with c.args.self.now.core c.args.key) c.model_laws.ensures c.args.self.now c.loop-key.self c.requires.rest c.loop-key.invariant.turned in
     omega (arith, few, c.requires.few)
 
 pub serve-requires-clause-few : goal.serve-requires-clause-few
 serve-requires-clause-few g c =
-    let few = turned_few g.J.Journal.has_noted true is_for_store c.args.key (owes_with c.args.self.now.core c.args.key) c.args.self.now c.loop-key.self c.requires.rest c.loop-key.invariant.turned in
+    let few = turned_few g.J.Journal.has_noted true is_for_store c.args.key (owes_with c.args.self.now.core c.args.key) c.model_laws.ensures c.args.self.now c.loop-key.self c.requires.rest c.loop-key.invariant.turned in
     let one = raises_events c.args.key (why_shut c.loop-key.self.core c.args.key) c.loop-key.self.core c.saved.new.self.core (c.saved.ensures.raises c.loop-key-test.true) in
     omega (arith, few, one, c.requires.few)
 
 pub loop-key-smaller : goal.loop-key-smaller
 loop-key-smaller g c =
     let asked = asks_store g.J.Journal.has_noted c.args.key (owes_with c.args.self.now.core c.args.key) c.loop-key.self c.saved.new.self c.saved.ensures.rest (c.saved.ensures.before c.loop-key-test.true) (c.saved.ensures.raises c.loop-key-test.true) (c.saved.ensures.missed c.loop-key-test.true) (self_owed c.args.self.now.core c.args.key) in
-    turned_less g.J.Journal.has_noted true is_for_store c.args.key (owes_with c.args.self.now.core c.args.key) (why_shut c.loop-key.self.core c.args.key) c.loop-key.self c.saved.new.self c.serve.new.self asked c.in-Ok.ensures.steps
+    turned_less g.J.Journal.has_noted true is_for_store c.args.key (owes_with c.args.self.now.core c.args.key) c.model_laws.ensures (why_shut c.loop-key.self.core c.args.key) c.loop-key.self c.saved.new.self c.serve.new.self asked c.in-Ok.ensures.steps
 
 pub loop-key-preserved : goal.loop-key-preserved
 loop-key-preserved g c =
     let no = c.loop-key-test.true in
     let asked = asks_store g.J.Journal.has_noted c.args.key (owes_with c.args.self.now.core c.args.key) c.loop-key.self c.saved.new.self c.saved.ensures.rest (c.saved.ensures.before no) (c.saved.ensures.raises no) (c.saved.ensures.missed no) (self_owed c.args.self.now.core c.args.key) in
     record {
-      turned = turned_once g.J.Journal.has_noted true is_for_store c.args.key (owes_with c.args.self.now.core c.args.key) (why_shut c.loop-key.self.core c.args.key) c.args.self.now c.loop-key.self c.saved.new.self c.serve.new.self c.loop-key.invariant.turned asked c.serve.ensures.rest (c.in-Ok.ensures.went is_for_store) c.in-Ok.ensures.steps;
+      turned = turned_once g.J.Journal.has_noted true is_for_store c.args.key (owes_with c.args.self.now.core c.args.key) c.model_laws.ensures (why_shut c.loop-key.self.core c.args.key) c.args.self.now c.loop-key.self c.saved.new.self c.serve.new.self c.loop-key.invariant.turned asked c.serve.ensures.rest (c.in-Ok.ensures.went is_for_store) c.in-Ok.ensures.steps;
       made = c.serve.ensures.made ∙ (c.saved.ensures.made ∙ c.loop-key.invariant.made);
     }
 
@@ -46,7 +46,7 @@ pub returns-in-Err-clause-few : goal.returns-in-Err-clause-few
 returns-in-Err-clause-few g c =
     let no = c.loop-key-test.true in
     let asked = asks_store g.J.Journal.has_noted c.args.key (owes_with c.args.self.now.core c.args.key) c.loop-key.self c.saved.new.self c.saved.ensures.rest (c.saved.ensures.before no) (c.saved.ensures.raises no) (c.saved.ensures.missed no) (self_owed c.args.self.now.core c.args.key) in
-    failed_events g.J.Journal.has_noted true is_for_store c.args.key (owes_with c.args.self.now.core c.args.key) (why_shut c.loop-key.self.core c.args.key) c.args.self.now c.loop-key.self c.saved.new.self c.serve.new.self c.in-Err.fault c.requires.rest c.loop-key.invariant.turned asked c.in-Err.ensures.fault
+    failed_events g.J.Journal.has_noted true is_for_store c.args.key (owes_with c.args.self.now.core c.args.key) c.model_laws.ensures (why_shut c.loop-key.self.core c.args.key) c.args.self.now c.loop-key.self c.saved.new.self c.serve.new.self c.in-Err.fault c.requires.rest c.loop-key.invariant.turned asked c.in-Err.ensures.fault
 
 pub returns-in-Err-clause-err : goal.returns-in-Err-clause-err
 returns-in-Err-clause-err g c =
@@ -56,7 +56,7 @@ returns-in-Err-clause-err g c =
 
 pub returns-in-Err-clause-untouched : goal.returns-in-Err-clause-untouched
 returns-in-Err-clause-untouched g c =
-    failed_holds g.J.Journal.has_noted true is_for_store c.args.key (owes_with c.args.self.now.core c.args.key) c.args.self.now c.serve.new.self c.in-Err.fault c.requires.rest c.serve.ensures.rest (returns-in-Err-clause-err g c)
+    failed_holds g.J.Journal.has_noted true is_for_store c.args.key (owes_with c.args.self.now.core c.args.key) c.model_laws.ensures c.args.self.now c.serve.new.self c.in-Err.fault c.requires.rest c.serve.ensures.rest (returns-in-Err-clause-err g c)
 
 pub returns-in-Err-clause-owes : goal.returns-in-Err-clause-owes
 returns-in-Err-clause-owes g c =
@@ -68,17 +68,17 @@ pub returns-in-Err-clause-fault : goal.returns-in-Err-clause-fault
 returns-in-Err-clause-fault g c =
     let no = c.loop-key-test.true in
     let asked = asks_store g.J.Journal.has_noted c.args.key (owes_with c.args.self.now.core c.args.key) c.loop-key.self c.saved.new.self c.saved.ensures.rest (c.saved.ensures.before no) (c.saved.ensures.raises no) (c.saved.ensures.missed no) (self_owed c.args.self.now.core c.args.key) in
-    failed_names g.J.Journal.has_noted true is_for_store c.args.key (owes_with c.args.self.now.core c.args.key) (why_shut c.loop-key.self.core c.args.key) c.args.self.now c.loop-key.self c.saved.new.self c.serve.new.self c.in-Err.fault c.loop-key.invariant.turned asked c.in-Err.ensures.fault
+    failed_names g.J.Journal.has_noted true is_for_store c.args.key (owes_with c.args.self.now.core c.args.key) c.model_laws.ensures (why_shut c.loop-key.self.core c.args.key) c.args.self.now c.loop-key.self c.saved.new.self c.serve.new.self c.in-Err.fault c.loop-key.invariant.turned asked c.in-Err.ensures.fault
 
 pub returns-in-Err-clause-counts : goal.returns-in-Err-clause-counts
 returns-in-Err-clause-counts g c =
     let no = c.loop-key-test.true in
     let asked = asks_store g.J.Journal.has_noted c.args.key (owes_with c.args.self.now.core c.args.key) c.loop-key.self c.saved.new.self c.saved.ensures.rest (c.saved.ensures.before no) (c.saved.ensures.raises no) (c.saved.ensures.missed no) (self_owed c.args.self.now.core c.args.key) in
-    failed_counts g.J.Journal.has_noted true is_for_store c.args.key (owes_with c.args.self.now.core c.args.key) (why_shut c.loop-key.self.core c.args.key) c.args.self.now c.loop-key.self c.saved.new.self c.serve.new.self c.in-Err.fault c.loop-key.invariant.turned asked c.in-Err.ensures.fault
+    failed_counts g.J.Journal.has_noted true is_for_store c.args.key (owes_with c.args.self.now.core c.args.key) c.model_laws.ensures (why_shut c.loop-key.self.core c.args.key) c.args.self.now c.loop-key.self c.saved.new.self c.serve.new.self c.in-Err.fault c.loop-key.invariant.turned asked c.in-Err.ensures.fault
 
 pub returns-clause-few : goal.returns-clause-few
 returns-clause-few g c =
-    let few = turned_few g.J.Journal.has_noted true is_for_store c.args.key (owes_with c.args.self.now.core c.args.key) c.args.self.now c.loop-key.self c.requires.rest c.loop-key.invariant.turned in
+    let few = turned_few g.J.Journal.has_noted true is_for_store c.args.key (owes_with c.args.self.now.core c.args.key) c.model_laws.ensures c.args.self.now c.loop-key.self c.requires.rest c.loop-key.invariant.turned in
     let one : c.saved.new.self.core.events ≡ c.loop-key.self.core.events + 1 = ap (λ (x : Core). x.events) (c.saved.ensures.step c.loop-key-test.false) in
     omega (arith, few, one)
 
@@ -89,13 +89,13 @@ returns-clause-ok g c =
 pub returns-clause-bytes : goal.returns-clause-bytes
 returns-clause-bytes g c =
     let yes = c.loop-key-test.false in
-    let before = turned_holds g.J.Journal.has_noted true is_for_store c.args.key (owes_with c.args.self.now.core c.args.key) c.args.self.now c.loop-key.self c.requires.rest c.loop-key.invariant.turned c.args.key c.requires.in_page.page in
+    let before = turned_holds g.J.Journal.has_noted true is_for_store c.args.key (owes_with c.args.self.now.core c.args.key) c.model_laws.ensures c.args.self.now c.loop-key.self c.requires.rest c.loop-key.invariant.turned c.args.key c.requires.in_page.page in
     let step : c.saved.new.self.core ≡ step.save c.loop-key.self.core c.args.key c.args.place c.args.bytes.now = c.saved.ensures.step yes in
     ap (λ (x : Core). held x c.args.key) step ∙ (saved_here c.loop-key.self.core c.args.key c.args.place c.args.bytes.now (c.saved.ensures.hit yes) ∙ ap (option_map (λ page. spliced page c.args.place c.args.bytes.now)) before)
 
 pub returns-clause-others : goal.returns-clause-others
 returns-clause-others g c = λ j page ne.
-    let before = turned_holds g.J.Journal.has_noted true is_for_store c.args.key (owes_with c.args.self.now.core c.args.key) c.args.self.now c.loop-key.self c.requires.rest c.loop-key.invariant.turned j page in
+    let before = turned_holds g.J.Journal.has_noted true is_for_store c.args.key (owes_with c.args.self.now.core c.args.key) c.model_laws.ensures c.args.self.now c.loop-key.self c.requires.rest c.loop-key.invariant.turned j page in
     let step : c.saved.new.self.core ≡ step.save c.loop-key.self.core c.args.key c.args.place c.args.bytes.now = c.saved.ensures.step c.loop-key-test.false in
     ap (λ (x : Core). held x j) step ∙ (saved_elsewhere c.loop-key.self.core c.args.key c.args.place c.args.bytes.now j ne ∙ before)
 

@@ -51,7 +51,7 @@ loop-region-preserved g c =
     ]
 
 pub returns-clause-held : goal.returns-clause-held
-returns-clause-held g c = flushes_hold g.J.Journal.has_noted c.loop-region.failed c.args.self.now c.loop-region.self c.requires.rest c.loop-region.invariant.tried.rest c.loop-region.invariant.tried.went
+returns-clause-held g c = flushes_hold c.model_laws.ensures g.J.Journal.has_noted c.loop-region.failed c.args.self.now c.loop-region.self c.requires.rest c.loop-region.invariant.tried.rest c.loop-region.invariant.tried.went
 
 pub returns-clause-owes : goal.returns-clause-owes
 returns-clause-owes g c = c.loop-region.invariant.tried.owes
@@ -61,13 +61,13 @@ returns-clause-tried g c = λ r lt.
     let end : r < c.loop-region.region = omega (arith, lt, c.loop-region-test.false, c.len-region-end.ensures, ap length c.requires.config.shapes) in
     elim (c.loop-region.invariant.tried.each r end) [
       | inl rose ↦ inl rose
-      | inr clean ↦ inr (stored c.loop-region.self.core r c.loop-region.invariant.tried.rest clean)
+      | inr clean ↦ inr (stored c.model_laws.ensures c.loop-region.self.core r c.loop-region.invariant.tried.rest clean)
     ]
 
 pub returns-clause-stored : goal.returns-clause-stored
 returns-clause-stored g c = λ e r lt.
     let end : r < c.loop-region.region = omega (arith, lt, c.loop-region-test.false, c.len-region-end.ensures, ap length c.requires.config.shapes) in
-    stored c.loop-region.self.core r c.loop-region.invariant.tried.rest (c.loop-region.invariant.tried.clean e r end)
+    stored c.model_laws.ensures c.loop-region.self.core r c.loop-region.invariant.tried.rest (c.loop-region.invariant.tried.clean e r end)
 
 pub returns-clause-fixed : goal.returns-clause-fixed
 returns-clause-fixed g c = c.loop-region.invariant.tried.went.went.setup

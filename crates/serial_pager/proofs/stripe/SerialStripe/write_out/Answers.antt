@@ -12,24 +12,24 @@ use Rattle.page_model.specs.Setups.{Setup, has_page}
 use Rattle.page_model.specs.Stands.{StandsFor}
 use Rattle.page_model.specs.Steps as step
 use Rattle.page_model.specs.Trips.{IsOpenWrite}
-use Rattle.page_model.proofs.Services.{service_knows}
 use Rattle.serial_pager.specs.Rests.{IsAtRest}
-use Rattle.serial_pager.specs.Services.{Writes, FailsToWrite}
+use Rattle.serial_pager.specs.InsideServices.{Writes, FailsToWrite}
 use Rattle.serial_pager.proofs.Goes.{went_trip}
+use Rattle.serial_pager.proofs.ModelLaws.{Laws}
 use Rattle.serial_pager.proofs.Places.{place_of, page_there, write_stands, write_leaves}
 use Rattle.serial_pager.proofs.Returns.{makes_writes, makes_unwritten, rests_written, rests_unwritten}
 use Rattle.serial_pager.proofs.stripe.SerialStripe.write_out.Goals as goal
 
 -- the lane that is sent out has the page
-lane_there : (c : Core) (k : Key) (lane : LaneSeen) → IsAtRest c → has_page c.setup k ≡ true → IsHere c k.region lane → LaneHas c.setup k lane
-lane_there c k lane rest page here = service_knows.lane_has c.setup rest.history k lane rest.stands.fits page (service_knows.like rest.history c k.region lane rest.stands here)
+lane_there : (laws : Laws) (c : Core) (k : Key) (lane : LaneSeen) → IsAtRest c → has_page c.setup k ≡ true → IsHere c k.region lane → LaneHas c.setup k lane
+lane_there laws c k lane rest page here = laws.knows.lane_has c.setup rest.history k lane rest.stands.fits page (laws.knows.like rest.history c k.region lane rest.stands here)
 
 pub write_to_store-requires : goal.write_to_store-requires
 write_to_store-requires g c =
     let start = c.start_write-trip.ensures in
     let now : Core = c.args.self.now.core in
     let here : IsHere now c.args.key.region c.start_write-trip.result.start.taken = subst (λ (x : Core). IsHere x c.args.key.region c.start_write-trip.result.start.taken) (ap (λ v. v.core) c.self.view_is) start.here in
-    let has = lane_there now c.args.key c.start_write-trip.result.start.taken c.requires.rest c.requires.page here in
+    let has = lane_there c.model_laws.ensures now c.args.key c.start_write-trip.result.start.taken c.requires.rest c.requires.page here in
     let size : length c.start_write-trip.new.scratch ≡ now.setup.page_size = omega (arith, c.start_write-trip.auto.scratch, c.requires.scratch) in
     record {
       place = subst (λ (l : LaneSeen). IsPlace l.origin (length c.start_write-trip.new.scratch) (c.from.result * length c.start_write-trip.new.scratch)) (sym (c.lane.ensures.value ∙ start.lane))
@@ -37,8 +37,8 @@ write_to_store-requires g c =
     }
 
 -- the page that is written, by the place of its bytes
-page_written : (c : Core) (k : Key) (lane : LaneSeen) (n p : ℕ) → IsAtRest c → has_page c.setup k ≡ true → IsHere c k.region lane → n ≡ c.setup.page_size → p ≡ k.page → p * n / lane.origin.page_size ≡ k.page
-page_written c k lane n p rest page here size at = page_there c.setup k lane n p (lane_there c k lane rest page here) rest.stands.fits.some_bytes size at
+page_written : (laws : Laws) (c : Core) (k : Key) (lane : LaneSeen) (n p : ℕ) → IsAtRest c → has_page c.setup k ≡ true → IsHere c k.region lane → n ≡ c.setup.page_size → p ≡ k.page → p * n / lane.origin.page_size ≡ k.page
+page_written laws c k lane n p rest page here size at = page_there c.setup k lane n p (lane_there laws c k lane rest page here) rest.stands.fits.some_bytes size at
 
 pub written-requires-clause-open_write : goal.written-requires-clause-open_write
 written-requires-clause-open_write g c =
@@ -71,7 +71,7 @@ written-requires-clause-wrote g c =
     let same = c.lane.ensures.value ∙ start.lane in
     let here : IsHere now c.args.key.region taken = subst (λ (x : Core). IsHere x c.args.key.region taken) (ap (λ v. v.core) c.self.view_is) start.here in
     let size : length bytes ≡ now.setup.page_size = omega (arith, c.start_write-trip.auto.scratch, c.requires.scratch) in
-    let page = page_written now c.args.key taken (length bytes) c.from.result c.requires.rest c.requires.page here size c.from.ensures ∙ ap (λ (k : Key). k.page) (sym start.key) in
+    let page = page_written c.model_laws.ensures now c.args.key taken (length bytes) c.from.result c.requires.rest c.requires.page here size c.from.ensures ∙ ap (λ (k : Key). k.page) (sym start.key) in
     let written = subst (λ (l : LaneSeen). told_at lane.told (off / l.origin.page_size) ≡ retold (told_at l.told (off / l.origin.page_size)) bytes) same c.in-Ok.ensures.written in
     let others = subst (λ (l : LaneSeen). ChangesOnly (off / l.origin.page_size) l.told lane.told) same c.in-Ok.ensures.others in
     let origin = subst (λ (l : LaneSeen). lane.origin ≡ l.origin) same c.in-Ok.ensures.origin in
@@ -90,7 +90,7 @@ write_failed-requires-clause-others g c =
     let same = c.lane.ensures.value ∙ start.lane in
     let here : IsHere now c.args.key.region taken = subst (λ (x : Core). IsHere x c.args.key.region taken) (ap (λ v. v.core) c.self.view_is) start.here in
     let size : length bytes ≡ now.setup.page_size = omega (arith, c.start_write-trip.auto.scratch, c.requires.scratch) in
-    let page = page_written now c.args.key taken (length bytes) c.from.result c.requires.rest c.requires.page here size c.from.ensures ∙ ap (λ (k : Key). k.page) (sym start.key) in
+    let page = page_written c.model_laws.ensures now c.args.key taken (length bytes) c.from.result c.requires.rest c.requires.page here size c.from.ensures ∙ ap (λ (k : Key). k.page) (sym start.key) in
     let others = subst (λ (l : LaneSeen). ChangesOnly (off / l.origin.page_size) l.told lane.told) same c.in-Err.ensures.others in
     let origin = subst (λ (l : LaneSeen). lane.origin ≡ l.origin) same c.in-Err.ensures.origin in
     let later = c.in-Err.ensures.cause.later in
@@ -152,9 +152,9 @@ returns-in-Err-clause-ends g c =
 pub returns-in-Ok-clause-rest : goal.returns-in-Ok-clause-rest
 returns-in-Ok-clause-rest g c =
     let went = (returns-in-Ok-clause-went g c).2 in
-    rests_written c.args.self.now.core c.written.new.self c.requires.rest _ (went.stands c.requires.rest.history c.requires.rest.stands) c.args.key c.requires.can.home (returns-in-Ok-clause-steps g c)
+    rests_written c.model_laws.ensures c.args.self.now.core c.written.new.self c.requires.rest _ (went.stands c.requires.rest.history c.requires.rest.stands) c.args.key c.requires.can.home (returns-in-Ok-clause-steps g c)
 
 pub returns-in-Err-clause-rest : goal.returns-in-Err-clause-rest
 returns-in-Err-clause-rest g c =
     let went = returns-in-Err-clause-ends g c in
-    rests_unwritten c.args.self.now.core c.write_failed.new.self c.requires.rest _ (went.stands c.requires.rest.history c.requires.rest.stands) c.args.key c.requires.can.home _ (returns-in-Err-clause-fault g c)
+    rests_unwritten c.model_laws.ensures c.args.self.now.core c.write_failed.new.self c.requires.rest _ (went.stands c.requires.rest.history c.requires.rest.stands) c.args.key c.requires.can.home _ (returns-in-Err-clause-fault g c)

@@ -1,7 +1,6 @@
 use Rattle.std.proofs.Common.{subst, sym, ◌∙◌}
-use Rattle.page_model.proofs.Prefixes.{page_region}
 use Rattle.serial_pager.specs.Writings.{WroteBack}
-use Rattle.serial_pager.proofs.Flushes.{page_back, page_clean, page_failed, page_owes, page_written}
+use Rattle.serial_pager.proofs.Flushes.{page_back, page_clean, page_failed, page_grows, page_owes, page_written}
 use Rattle.serial_pager.proofs.stripe.SerialStripe.write_page.Goals as goal
 
 pub returns-then-is_dirty-clause-clean : goal.returns-then-is_dirty-clause-clean
@@ -12,7 +11,11 @@ returns-then-is_dirty-clause-owes g c = page_owes c.args.self.now.core c.write_o
 
 pub returns-then-is_dirty-clause-failed : goal.returns-then-is_dirty-clause-failed
 returns-then-is_dirty-clause-failed g c = λ e.
-    page_failed c.args.self.now.core c.write_out.new.self.core c.args.key c.requires.rest (c.requires.rest.home c.args.key.region (page_region c.args.self.now.core.setup c.args.key c.requires.page)) c.write_out.result c.write_out.ensures.fault (sym c.is_err.ensures.value ∙ e)
+    page_failed c.args.self.now.core c.write_out.new.self.core c.args.key c.model_laws.ensures c.requires.rest (c.requires.rest.home c.args.key.region (c.model_laws.ensures.pages.region c.args.self.now.core.setup c.args.key c.requires.page)) c.write_out.result c.write_out.ensures.fault (sym c.is_err.ensures.value ∙ e)
+
+pub returns-then-is_dirty-clause-counts : goal.returns-then-is_dirty-clause-counts
+returns-then-is_dirty-clause-counts g c =
+    page_grows c.args.self.now.core c.write_out.new.self.core c.args.key c.model_laws.ensures c.requires.rest (c.requires.rest.home c.args.key.region (c.model_laws.ensures.pages.region c.args.self.now.core.setup c.args.key c.requires.page)) c.write_out.result c.write_out.ensures.steps c.write_out.ensures.fault
 
 pub returns-then-is_dirty-clause-written : goal.returns-then-is_dirty-clause-written
 returns-then-is_dirty-clause-written g c = λ e. page_written c.args.self.now.core c.write_out.new.self.core c.args.key c.write_out.result c.write_out.ensures.steps (sym c.is_err.ensures.value ∙ e)

@@ -1,0 +1,77 @@
+-- What ties the fields of a pager, and what writing its stripes' dirty pages one after another leaves.
+use Rattle.std.specs.Prelude.{◌≡◌, ℕ, ◌+◌, ◌*◌, ◌^◌, ◌<◌, ◌≤◌, Bool, true, false, List, ◌++◌, length, reverse, slice_get, Some}
+use Rattle.std.specs.List.{list_all, list_any}
+use Rattle.page_base.specs.Lanes.{LaneSeen}
+use Rattle.page_base.specs.declared.keys.Key.{Key}
+use Rattle.page_base.specs.declared.keys.RegionShape.{RegionShape}
+use Rattle.page_model.specs.Core.{Core}
+use Rattle.stripe_core.specs.declared.config.StripeConfig.{StripeConfig}
+use Rattle.serial_pager.specs.Seen.{StripeSeen}
+use Rattle.histories.specs.Histories.{History}
+use Rattle.page_model.specs.declared.entry.Entry.{Entry}
+use Rattle.page_model.specs.Setups.{regions}
+use Rattle.serial_pager.specs.Goings.{Went}
+use Rattle.serial_pager.specs.Holdings as one
+use Rattle.serial_pager.specs.Holdings.{HoldsSame, CountsGrow}
+use Rattle.serial_pager.specs.Writings.{flushes, is_failed_write, RoseAt, IsTried}
+use Rattle.serial_pager.specs.Rests.{IsAtRest}
+use Rattle.serial_pager.specs.Pagers.{PagerSeen, AreLanesOf}
+
+-- the core is that of stripe s, and has few entries
+pub record IsStripe {J : Type 0} (p : PagerSeen J) (s : ℕ) (core : Core) : Type 0 where
+  pub rest : IsAtRest core
+  pub page_size : core.setup.page_size ≡ p.page_size
+  pub stripes : core.setup.stripes ≡ length p.stripes
+  pub number : core.setup.number ≡ s
+  pub shapes : core.setup.shapes ≡ p.shapes
+  pub few : core.events ≤ p.spent * 2 ^ 16
+
+-- stripe s may write its dirty pages
+pub record MayFlush (c : StripeConfig) (size s : ℕ) (core : Core) : Type 0 where
+  pub rest : IsAtRest core
+  pub few : core.events + 2 ^ 22 ≤ 2 ^ 62
+  pub page_size : core.setup.page_size ≡ size
+  pub stripes : c.layout.stripes ≡ core.setup.stripes
+  pub number : core.setup.number ≡ s
+  pub shapes : c.shapes.items ≡ core.setup.shapes
+
+-- and has written them
+pub record Flushes {J : Type 0} (x y : StripeSeen J) : Type 0 where
+  pub fixed : y.core.setup ≡ x.core.setup
+  pub rest : IsAtRest y.core
+  pub few : y.core.events ≤ x.core.events + 2 ^ 22
+  pub held : HoldsSame x.core y.core
+  pub owes : (k : Key) → one.owes y.core k ≡ true → one.owes x.core k ≡ true
+  pub counts : CountsGrow x.core y.core
+  pub tried : (r : ℕ) → r < regions x.core.setup → IsTried x.core y.core r
+
+-- each of these stripes has, by these entries: a write of some stripe failed, or none did
+pub record FlushesAll {J : Type 0} (has_noted : J → History Entry → Type 0) (failed : Bool) (old new : List (StripeSeen J)) : Type 0 where
+  pub made : ℕ → List Entry
+  pub went : (s : ℕ) (x y : StripeSeen J) → slice_get old s ≡ Some x → slice_get new s ≡ Some y → Went has_noted (made s) x y
+  pub pass : (s : ℕ) → list_all flushes (made s) ≡ true
+  pub some : failed ≡ true → (s : ℕ) × (s < length old) × (list_any is_failed_write (made s) ≡ true)
+  pub none : failed ≡ false → (s : ℕ) → list_any is_failed_write (made s) ≡ false
+
+-- some lane of some stripe counts more faults than before
+pub record SomeRose {J : Type 0} (old new : List (StripeSeen J)) : Type 0 where
+  pub s : ℕ
+  pub r : ℕ
+  pub x : StripeSeen J
+  pub y : StripeSeen J
+  pub was : slice_get old s ≡ Some x
+  pub is : slice_get new s ≡ Some y
+  pub region : r < regions x.core.setup
+  pub rose : RoseAt x.core y.core r
+
+pub record IsSound {J : Type 0} (p : PagerSeen J) : Type 0 where
+  pub groups : (r : ℕ) (shape : RegionShape) → slice_get p.shapes r ≡ Some shape → 1 ≤ shape.group
+  pub few : p.spent ≤ 2 ^ 44
+  pub each : (s : ℕ) (x : StripeSeen J) → slice_get p.stripes s ≡ Some x → IsStripe p s x.core
+
+-- the rows are the stripes' lanes in order, and behind them these others, of which the last came first
+pub record HandsBack {J : Type 0} (stripes : List (StripeSeen J)) (others rows : List (List LaneSeen)) : Type 0 where
+  pub own : List (List LaneSeen)
+  pub is : rows ≡ own ++ reverse others
+  pub count : length own ≡ length stripes
+  pub each : (s : ℕ) (row : List LaneSeen) (x : StripeSeen J) → slice_get own s ≡ Some row → slice_get stripes s ≡ Some x → AreLanesOf x.core row
