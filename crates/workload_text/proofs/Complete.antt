@@ -31,7 +31,7 @@ name_some name h = is_empty-false name (leb-true 1 (length name) (and_parts (nat
 decimal_some : (n : ℕ) → n < 2 ^ 64 → is_empty (decimal n) ≡ false
 decimal_some n small = is_empty-false (decimal n) (decimal_nonempty n small)
 
-mode_of-mode_text : (w : Bool) → mode_of (mode_text w) ≡ Some w
+pub mode_of-mode_text : (w : Bool) → mode_of (mode_text w) ≡ Some w
 unfolding mode_of
 mode_of-mode_text true = refl
 mode_of-mode_text false = refl
@@ -200,12 +200,12 @@ not_silent s (unmap_line r) = begins_with (line_text s (unmap_line r)) 117 (omeg
 line_complete : (s : Said) (l : Line) → AllNamed s.regions → Allowed s l → read_line s (line_text s l) ≡ Ok l
 line_complete s l n h = ap (read_fields s) (cut_again (fields s l) (fields_some s l) (fields_plain s l n h)) ∙ fields_read s l n h
 
-text_line_complete : (s : Said) (t : TextLine) → AllNamed s.regions → AllowedText s t → read_text_line s (shown s t) ≡ Ok t
+pub text_line_complete : (s : Said) (t : TextLine) → AllNamed s.regions → AllowedText s t → read_text_line s (shown s t) ≡ Ok t
 unfolding read_text_line
 text_line_complete s (silent text) n h = rw h.marked refl
 text_line_complete s (says l) n h = rw (not_silent s l) (ap (λ (r : Result Line TextKind). r >>= (λ x. Ok (says x))) (line_complete s l n h))
 
-line_cut : (s : Said) (t : TextLine) (behind : List ℕ) → AllNamed s.regions → AllowedText s t → slice_split is_line_feed (shown s t ++ 10 ∷ behind) ≡ shown s t ∷ slice_split is_line_feed behind
+pub line_cut : (s : Said) (t : TextLine) (behind : List ℕ) → AllNamed s.regions → AllowedText s t → slice_split is_line_feed (shown s t ++ 10 ∷ behind) ≡ shown s t ∷ slice_split is_line_feed behind
 line_cut s (silent text) behind n h = slice_split-silent text behind h.one_line
 line_cut s (says l) behind n h = slice_split-line (fields s l) behind (fields_plain s l n h)
 

@@ -5,8 +5,9 @@ use Rattle.std.proofs.lemmas.Bool.{ne_eqb, lt-leb}
 use Rattle.workload_text.specs.Grammar.{IsText}
 use Rattle.workload_text.specs.Reading.{read_text_line, is_empty, is_line_feed}
 use Rattle.workload_text.specs.Refusals.{RefusedAt, refusal, read_texts}
-use Rattle.workload_text.specs.State.{TakesText, said_by, with_front}
-use Rattle.workload_text.specs.Answers.{IfRefused, fault_at}
+use Rattle.workload_text.specs.InsideState.{TakesText, said_by, with_front}
+use Rattle.workload_text.specs.Answers.{IfRefused}
+use Rattle.workload_text.specs.InsideAnswers.{fault_at}
 use Rattle.workload_text.specs.declared.refusal.LineFault.{LineFault}
 use Rattle.workload_text.specs.declared.refusal.LineFault.TheVariants as line
 use Rattle.workload_text.specs.declared.refusal.TextKind.{TextKind}

@@ -10,5 +10,7 @@ pub mod Sound
 pub mod Refused
 pub mod Plain
 pub mod Complete
+pub mod Verdicts
+pub mod FirstBads
 pub mod Runnable
 pub mod Ends

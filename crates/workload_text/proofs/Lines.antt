@@ -9,7 +9,7 @@ use Rattle.workload_text.specs.Grammar.{Said, nothing, after_text, lines_in}
 use Rattle.workload_text.specs.Reading.{read_text_line, is_line_feed}
 use Rattle.workload_text.specs.Refusals.{RefusedAt, read_texts, read_text, line_then, before_all}
 use Rattle.workload_text.specs.Answers.{numbers_of, map_numbers}
-use Rattle.workload_text.specs.State.{IsSound, Took, said_by, lines_by, with_number, with_front}
+use Rattle.workload_text.specs.InsideState.{IsSound, Took, said_by, lines_by, with_number, with_front}
 use Rattle.workload_text.specs.declared.refusal.TextKind.{TextKind}
 use Rattle.workload_text.specs.declared.reading.Reading.{Reading}
 

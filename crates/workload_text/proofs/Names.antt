@@ -63,7 +63,7 @@ not_at name (x ∷ xs) (suc k) h lt e = not_at name xs k (or_parts (bytes_eq nam
 pub not_among : (name : List ℕ) (names : List (List ℕ)) → list_any (bytes_eq name) names ≡ false → ¬ Contains names name
 not_among name names h = λ c. not_at name names c.0 h c.1 c.2
 
-among : (name : List ℕ) (names : List (List ℕ)) → list_any (bytes_eq name) names ≡ true → Contains names name
+pub among : (name : List ℕ) (names : List (List ℕ)) → list_any (bytes_eq name) names ≡ true → Contains names name
 among name [] h = absurd (cc h)
 among name (x ∷ xs) h =
     elim (or_cases (bytes_eq name x) (list_any (bytes_eq name) xs) h) [

@@ -1,12 +1,15 @@
 -- The one spelling of a number.
-use Rattle.std.proofs.Common.{◌≡◌, ℕ, ◌<◌, ◌≤◌, ◌^◌, Bool, true, false, cond, ◌&&◌, List, Some, None, Result, Ok, ◌∙◌, ap, refl, nat_le}
+use Rattle.std.proofs.Common.{◌≡◌, ◌⊎◌, inl, inr, ℕ, zero, suc, ◌+◌, ◌-◌, ◌*◌, ◌<◌, ◌≤◌, ◌^◌, Bool, true, false, cond, ◌&&◌, List, length, take, get_or, Some, None, ◌∙◌, ap, sym, subst, refl, nat_le, arith}
 use Rattle.std.specs.Fmt.{decimal}
-use Rattle.std.specs.Str.{bytes_eq, IsUtf8}
-use Rattle.std.specs.Str.Parse.{digits_value, ParsesUnsigned}
+use Rattle.std.specs.Int.{IsInRange}
+use Rattle.std.specs.Str.{bytes_eq}
+use Rattle.std.specs.Str.Parse.{AllDigits, digits_value}
 use Rattle.std.proofs.lemmas.Bool.{and_parts, and_from, leb-true, le-leb}
-use Rattle.std.proofs.lemmas.Fmt.{decimal_is_IsNumeral, parse-decimal, IsAscii-decimal}
+use Rattle.std.proofs.lemmas.Fmt.{decimal_is_IsNumeral, decimal_nonempty, decimal-digits_value, first_decimal, length-decimal-le_succ}
+use Rattle.std.proofs.lemmas.Int.Digits.{digits_value_more}
 use Rattle.std.proofs.lemmas.Slice.Eq.{bytes_eq-Decides}
-use Rattle.std.proofs.lemmas.Str.{IsUtf8-from_ascii}
+use Rattle.std.proofs.lemmas.Str.{digit_value_digit}
+use Rattle.std.proofs.lemmas.Str.Parse.{digits_value-take-le, numerals_by_value, tells_by_index, tells_digits}
 use Rattle.std.proofs.lemmas.Option.{cond_some}
 use Rattle.workload_text.specs.Reading.{number_of}
 
@@ -40,8 +43,42 @@ number_of-Some least most n f h =
     let r = and_parts (nat_le least (digits_value 10 f)) (nat_le (digits_value 10 f) most) q.1 in
     ((bytes_eq-Decides f (decimal (digits_value 10 f))).0 q.0 ∙ ap decimal p.1, rw p.1 at (leb-true _ _ r.0), rw p.1 at (leb-true _ _ r.1))
 
-pub IsUtf8-decimal : (n : ℕ) (f : List ℕ) → n < 2 ^ 64 → f ≡ decimal n → IsUtf8 f
-IsUtf8-decimal n f small e = rw e (IsUtf8-from_ascii _ (IsAscii-decimal n small))
+-- ---- digits
 
-pub parses : {E : Type 0} (n : ℕ) (f text : List ℕ) (r : Result ℕ E) → n < 2 ^ 64 → text ≡ f → f ≡ decimal n → ParsesUnsigned 64 10 text r → r ≡ Ok n
-parses n f text r small t e p = parse-decimal 64 n text r small small (t ∙ e) p
+digits_by_place : (f : List ℕ) → AllDigits 10 f → (i : ℕ) → i < length f → IsInRange 48 57 (get_or f i 0)
+digits_by_place f d = (numerals_by_value (λ ds. (i : ℕ) → i < length ds → IsInRange 48 57 (get_or ds i 0)) tells_by_index).from f d
+
+pub no_digits : (f : List ℕ) (i : ℕ) → i < length f → (get_or f i 0 < 48) ⊎ (57 < get_or f i 0) → AllDigits 10 f → ⊥
+no_digits f i below (inl low) d = let r = digits_by_place f d i below in omega (arith, low, r.0)
+no_digits f i below (inr high) d = let r = digits_by_place f d i below in omega (arith, high, r.1)
+
+pub all_digits : (f : List ℕ) → ((i : ℕ) → i < length f → IsInRange 48 57 (get_or f i 0)) → AllDigits 10 f
+all_digits f h = (numerals_by_value (λ ds. (i : ℕ) → i < length ds → IsInRange 48 57 (get_or ds i 0)) tells_by_index).to f h
+
+-- one digit more
+pub value_more : (f : List ℕ) (i value : ℕ) → i < length f → value ≡ digits_value 10 (take i f) → IsInRange 48 57 (get_or f i 0) → digits_value 10 (take (i + 1) f) ≡ value * 10 + (get_or f i 0 - 48)
+value_more f i value below is range = omega (arith, is, digits_value_more 10 f i below, digit_value_digit (get_or f i 0) range)
+
+-- the digits so far say no more than all
+pub value_up : (f : List ℕ) (i n : ℕ) → n ≤ digits_value 10 (take i f) → n ≤ digits_value 10 f
+value_up f i n h = omega (arith, h, digits_value-take-le 10 f i (omega arith))
+
+-- ---- one spelling
+
+abbrev pub IsPlain : List ℕ → Type 0
+IsPlain f = (0 < length f) × (get_or f 0 0 ≡ 48 → length f ≡ 1)
+
+-- plain digits are the spelling of their value
+pub plain_is : (f : List ℕ) (n : ℕ) → IsPlain f → AllDigits 10 f → n ≡ digits_value 10 f → n < 2 ^ 64 → f ≡ decimal n
+plain_is f n plain d is small = sym (decimal-digits_value (numerals_by_value (AllDigits 10) tells_digits) f d plain.0 plain.1 (omega (arith, is, small))) ∙ ap decimal (sym is)
+
+-- and a spelling is plain digits of its value
+pub spelling_is : (f : List ℕ) (n : ℕ) → n < 2 ^ 64 → f ≡ decimal n → IsPlain f × AllDigits 10 f × (digits_value 10 f ≡ n)
+spelling_is f n small e =
+    let d = decimal_is_IsNumeral n small in
+    let P : List ℕ → Type 0 = λ x. IsPlain x × AllDigits 10 x × (digits_value 10 x ≡ n) in
+    subst P (sym e) ((d.0.0, lead n small), d.0.1, d.1)
+  where
+    lead : (m : ℕ) → m < 2 ^ 64 → get_or (decimal m) 0 0 ≡ 48 → length (decimal m) ≡ 1
+    lead zero low first = omega (arith, length-decimal-le_succ 0 low, decimal_nonempty 0 low)
+    lead (suc m) low first = absurd (omega (arith, first, first_decimal (suc m) (omega arith) low))

@@ -20,7 +20,7 @@ use Rattle.workload_text.proofs.Hex.{bytes_of-Some}
 
 -- ---- what an Ok behind tests shows
 
-bind_ok : {A B : Type 0} (r : Result A TextKind) (f : A → Result B TextKind) (y : B) → (r >>= f) ≡ Ok y → (x : A) × (r ≡ Ok x) × (f x ≡ Ok y)
+pub bind_ok : {A B : Type 0} (r : Result A TextKind) (f : A → Result B TextKind) (y : B) → (r >>= f) ≡ Ok y → (x : A) × (r ≡ Ok x) × (f x ≡ Ok y)
 bind_ok (Ok x) f y h = (x, refl, h)
 bind_ok (Err k) f y h = absurd (cc h)
 
@@ -50,10 +50,10 @@ either false p q y h = inr (refl, h)
 pub ok_same : {A E : Type 0} (x y : A) → ◌≡◌ {A = Result A E} (Ok x) (Ok y) → x ≡ y
 ok_same x y h = cc h
 
-not_empty : {A : Type 0} (xs : List A) → is_empty xs ≡ false → xs ≢ []
+pub not_empty : {A : Type 0} (xs : List A) → is_empty xs ≡ false → xs ≢ []
 not_empty xs h e = eqb-false (length xs) 0 h (ap length e)
 
-empty_is : {A : Type 0} (xs : List A) → is_empty xs ≡ true → xs ≡ []
+pub empty_is : {A : Type 0} (xs : List A) → is_empty xs ≡ true → xs ≡ []
 empty_is xs h = nil_from_length xs (eqb-true (length xs) 0 h)
 
 -- so many fields
@@ -91,7 +91,7 @@ mode_cases true c w h = inl (refl, cc h)
 mode_cases false true w h = inr (refl, cc h)
 mode_cases false false w h = absurd (cc h)
 
-mode_of-Some : (field : List ℕ) (w : Bool) → mode_of field ≡ Some w → field ≡ mode_text w
+pub mode_of-Some : (field : List ℕ) (w : Bool) → mode_of field ≡ Some w → field ≡ mode_text w
 unfolding mode_of
 mode_of-Some field w h =
     elim (mode_cases (bytes_eq field (codes "rw")) (bytes_eq field (codes "ro")) w h) [
@@ -351,7 +351,7 @@ line_sound s text l h =
     let p = fields_sound s (slice_split is_space text) l h in
     (sym (join_with_byte-slice_split 32 text) ∙ ap (join_with_byte 32) p.0, p.1)
 
-text_line_sound : (s : Said) (text : List ℕ) (t : TextLine) → All (λ b. b ≢ 10) text → read_text_line s text ≡ Ok t → (text ≡ shown s t) × AllowedText s t
+pub text_line_sound : (s : Said) (text : List ℕ) (t : TextLine) → All (λ b. b ≢ 10) text → read_text_line s text ≡ Ok t → (text ≡ shown s t) × AllowedText s t
 unfolding read_text_line
 text_line_sound s text t clean h =
     let P : TextLine → Type 0 = λ x. (text ≡ shown s x) × AllowedText s x in
@@ -364,7 +364,7 @@ text_line_sound s text t clean h =
 
 -- ---- the parts between line feeds
 
-abbrev AreClean : List (List ℕ) → Type 0
+abbrev pub AreClean : List (List ℕ) → Type 0
 AreClean [] = Unit {0}
 AreClean (p ∷ ps) = All (λ b. b ≢ 10) p × AreClean ps
 
@@ -372,7 +372,7 @@ longer_clean : (b : ℕ) (ps : List (List ℕ)) → b ≢ 10 → AreClean ps →
 longer_clean b [] h c = (All-cons (λ x. x ≢ 10) b [] h (All-nil (λ x. x ≢ 10)), tt)
 longer_clean b (p ∷ ps) h c = (All-cons (λ x. x ≢ 10) b p h c.0, c.1)
 
-parts_clean : (text : List ℕ) → AreClean (slice_split is_line_feed text)
+pub parts_clean : (text : List ℕ) → AreClean (slice_split is_line_feed text)
 parts_clean [] = (All-nil (λ x. x ≢ 10), tt)
 parts_clean (b ∷ text) =
     elim (cases_Bool (is_line_feed b)) [

@@ -5,8 +5,6 @@ use Rattle.workload_text.specs.Grammar.{IsText}
 use Rattle.workload_text.specs.declared.refusal.TextKind.{TextKind}
 use Rattle.workload_text.specs.declared.refusal.TextFault.{TextFault}
 use Rattle.workload_text.specs.declared.refusal.TextFault.TheVariants.{Refused, OutOfMemory}
-use Rattle.workload_text.specs.declared.refusal.LineFault.{LineFault}
-use Rattle.workload_text.specs.declared.refusal.LineFault.TheVariants as line
 
 -- the number of a `map` line, where this is one and stands on line n
 abbrev pub numbers_of : ℕ → TextLine → List ℕ
@@ -29,8 +27,3 @@ abbrev pub IfRefused : {W : Type 0} → Result W TextFault → (ℕ → TextKind
 IfRefused (Ok w) P = Unit {0}
 IfRefused (Err OutOfMemory) P = Unit {0}
 IfRefused (Err (Refused n kind)) P = P n kind
-
--- the fault of a text, by that of its line of this number
-abbrev pub fault_at : ℕ → LineFault → TextFault
-fault_at n (line.Refused kind) = Refused n kind
-fault_at n line.OutOfMemory = OutOfMemory

@@ -3,8 +3,11 @@ pub mod View
 pub mod Grammar
 pub mod Reading
 pub mod Refusals
+pub mod Kinds
+pub mod FirstBad
 pub mod Accepted
 pub mod Built
-pub mod Cuts
-pub mod State
+pub mod InsideCuts
+pub mod InsideState
 pub mod Answers
+pub mod InsideAnswers

@@ -3,7 +3,7 @@ ghost use Rattle.std.specs.Prelude.{◌≡◌, ◌<◌, ◌≤◌, ℕ, length, 
 ghost use Rattle.workload_text.specs.Grammar.{region_from, size_at, writable_at};
 ghost use Rattle.workload_text.specs.View.{region, command_line};
 ghost use Rattle.workload_text.specs.Reading.{read_load, read_store, read_prefetch, read_flush, read_unmap};
-ghost use Rattle.workload_text.specs.State.{Takes, IsSound, said_by, lines_by};
+ghost use Rattle.workload_text.specs.InsideState.{Takes, IsSound, said_by, lines_by};
 
 use crate::field::{hex_bytes, is_name, number};
 use crate::reading::{Reading, push, refused};

@@ -6,7 +6,7 @@ ghost use Rattle.std.specs.Prelude.{◌≡◌, ◌<◌, [], ◌∷◌, length, I
 ghost use Rattle.std.specs.List.{slice_split, list_any};
 ghost use Rattle.workload_text.specs.Grammar.{is_silent};
 ghost use Rattle.workload_text.specs.Reading.{is_line_feed, is_empty, one_of, two_of, three_of, four_of};
-ghost use Rattle.workload_text.specs.Cuts.{fields_left};
+ghost use Rattle.workload_text.specs.InsideCuts.{fields_left};
 
 /// The first line and what stands behind its line feed.
 pub fn next_line<'a>(text: &'a [u8]) -> Option<(&'a [u8], &'a [u8])>

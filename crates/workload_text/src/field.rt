@@ -1,35 +1,57 @@
 //! Readers of single fields: each accepts the one spelling that the grammar prints.
-ghost use Rattle.std.specs.Prelude.{◌≡◌, ◌<◌, ◌≤◌, ◌*◌, ◌^◌, ℕ, true, length, IfOk, IfSome};
+ghost use Rattle.std.specs.Prelude.{◌≡◌, ◌<◌, ◌≤◌, ◌*◌, ◌^◌, ℕ, true, length, slice_index, IsTrue, ◌↔◌, IfOk, IfSome, IfNone};
+ghost use Rattle.std.specs.Str.Parse.{AllDigits, digits_value};
 ghost use Rattle.std.specs.Option.{option_map};
 ghost use Rattle.std.specs.List.{list_all};
 ghost use Rattle.workload_text.specs.Grammar.{is_name, is_name_byte, is_path, is_path_byte, is_component};
 ghost use Rattle.workload_text.specs.Reading.{number_of, bytes_of, mode_of, is_hex, is_hex_digit, hex_digit_value, hex_pairs};
 
-use itoa::Buffer;
 use page_base::{Bytes, OutOfMemory};
 use std::alloc::Global;
-use std::str;
 
-/// The number that a field spells, within a range. It is printed back and compared, so that one
-/// spelling alone is read.
+/// One byte at least, and no `0` in front of others.
+fn is_plain(field: &[u8]) -> bool
+    ensures { IsTrue result ↔ ((0 < length field.now) × (slice_index field.now 0 ≡ 48 → length field.now ≡ 1)) }
+{
+    field.len() == 1 || (field.len() > 1 && field[0] != b'0')
+}
+
+/// The value of decimal digits, where there is nothing else and a `u64` holds it.
+fn digits(field: &[u8]) -> Option<u64>
+    ensures some { IfSome result (λ n. AllDigits 10 field.now × (n ≡ digits_value 10 field.now)) }
+    ensures none { IfNone result (AllDigits 10 field.now → 2 ^ 64 ≤ digits_value 10 field.now) }
+{
+    let mut value = 0u64;
+    for c in field {
+        if *c < 48 || *c > 57 {
+            return None;
+        }
+        let Some(tens) = value.checked_mul(10) else {
+            return None;
+        };
+        let Some(more) = tens.checked_add(u64::from(*c - 48)) else {
+            return None;
+        };
+        value = more;
+    }
+    Some(value)
+}
+
+/// The number that a field spells in its one way, without a sign or a zero in front, where it is in the range.
 pub fn number(field: &[u8], least: u64, most: u64) -> Option<u64>
     ensures value { result ≡ number_of least most field.now }
     ensures small { IfSome result (λ n. n ≤ most) }
 {
-    let text = match str::from_utf8(field) {
-        Ok(text) => text,
-        Err(_) => return None,
-    };
-    let n = match text.parse::<u64>() {
-        Ok(n) => n,
-        Err(_) => return None,
+    if !is_plain(field) {
+        return None;
+    }
+    let Some(n) = digits(field) else {
+        return None;
     };
     if n < least || n > most {
         return None;
     }
-    let mut buffer = Buffer::new();
-    let again = buffer.format(n).as_bytes();
-    if again == field { Some(n) } else { None }
+    Some(n)
 }
 
 fn is_name_byte(c: u8) -> bool

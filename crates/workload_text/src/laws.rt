@@ -5,6 +5,7 @@ ghost use Rattle.std.specs.Prelude.{◌≡◌, ◌↔◌, ℕ, List, Ok, Err, So
 ghost use Rattle.workload_text.specs.Line.{Line, TextLine};
 ghost use Rattle.workload_text.specs.Grammar.{IsText, Spells};
 ghost use Rattle.workload_text.specs.Refusals.{RefusedAt, read_text, refusal};
+ghost use Rattle.workload_text.specs.FirstBad.{RefusalsAreRight, AcceptedIsFree};
 ghost use Rattle.workload_text.specs.Accepted.{IsRunnable};
 
 /// The reading function reads exactly what the grammar spells.
@@ -35,4 +36,15 @@ pub fn text_is_spelt_or_refused()
 /// The lines of an accepted text can be run.
 pub fn accepted_lines_are_runnable()
     ensures { (bytes : List ℕ) (lines : List Line) → Spells bytes lines → IsRunnable lines }
+{}
+
+/// A refusal names, by the grammar alone, the first line with which no accepted text begins, and the first kind that
+/// applies to it; a text that is too long is refused as a whole.
+pub fn refusals_are_right()
+    ensures { RefusalsAreRight }
+{}
+
+/// To no line of an accepted text does a kind of refusal apply.
+pub fn accepted_is_free()
+    ensures { AcceptedIsFree }
 {}

@@ -1,6 +1,6 @@
 //! The workload language, version 1: its values, its grammar and its reading.
 //!
-//! It stands on `page_base`, and on the kit's `hex`, `itoa` and `memchr`. The grammar is a relation that prints
+//! It stands on `page_base`, and on the kit's `hex` and `memchr`. The grammar is a relation that prints
 //! (`specs/Grammar.antt`); `parse` promises a workload exactly where the bytes spell one, else the first bad line and the
 //! first kind of refusal that applies to it (`specs/Refusals.antt`), and that what it gives can be run: ranges lie inside
 //! their regions, stores name writable ones, limits hold. `laws` has what follows from the definitions alone. `is_built`
@@ -20,6 +20,7 @@ mod tests;
 mod text;
 mod workload;
 
+pub use crate::field::number;
 pub use crate::refusal::{TextFault, TextKind};
 pub use crate::text::parse;
 pub use crate::workload::{Command, MapLine, Parsed, Script, StoreKind, Workload, is_built};

@@ -3,8 +3,8 @@ ghost use Rattle.std.specs.Prelude.{◌≡◌};
 ghost use Rattle.workload_text.specs.Line.{map_line};
 ghost use Rattle.workload_text.specs.View.{backing_of};
 ghost use Rattle.workload_text.specs.Reading.{as_region, read_memory, read_file, read_sparse, read_map};
-ghost use Rattle.workload_text.specs.Cuts.{fields_left};
-ghost use Rattle.workload_text.specs.State.{Takes, IsSound, said_by};
+ghost use Rattle.workload_text.specs.InsideCuts.{fields_left};
+ghost use Rattle.workload_text.specs.InsideState.{Takes, IsSound, said_by};
 
 use crate::cut::{four, has_empty_field, next_field, three, two};
 use crate::field::{is_name, is_path, mode, number};

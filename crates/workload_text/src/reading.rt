@@ -6,8 +6,8 @@ ghost use Rattle.std.specs.Prelude.{◌≡◌, IfOk, OnOk, ◌++◌, [], ◌∷�
 ghost use Rattle.workload_text.specs.Grammar.{nothing};
 ghost use Rattle.workload_text.specs.View.{lines_of};
 ghost use Rattle.workload_text.specs.Reading.{read_word, read_line, read_text_line};
-ghost use Rattle.workload_text.specs.Cuts.{fields_left};
-ghost use Rattle.workload_text.specs.State.{Takes, TakesText, IsSound, said_by, lines_by};
+ghost use Rattle.workload_text.specs.InsideCuts.{fields_left};
+ghost use Rattle.workload_text.specs.InsideState.{Takes, TakesText, IsSound, said_by, lines_by};
 
 use crate::cut::{is_silent, next_field, one, three};
 use crate::refusal::{LineFault, TextKind};

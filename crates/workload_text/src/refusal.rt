@@ -3,7 +3,7 @@
 //! The kinds stand in the order in which the tests of one line come.
 
 ghost use Rattle.std.specs.Prelude.{◌≡◌};
-ghost use Rattle.workload_text.specs.Answers.{fault_at};
+ghost use Rattle.workload_text.specs.InsideAnswers.{fault_at};
 ghost use Rattle.workload_text.specs.declared.refusal.TextFault.TheVariants as text;
 ghost use Rattle.workload_text.specs.declared.refusal.LineFault.TheVariants as line;
 

@@ -3,7 +3,7 @@ ghost use Rattle.std.specs.Prelude.{◌≡◌, ◌≤◌, length, map, IsTrue, �
 ghost use Rattle.std.specs.Str.{bytes_eq};
 ghost use Rattle.std.specs.List.{list_any};
 ghost use Rattle.workload_text.specs.Reading.{read_script};
-ghost use Rattle.workload_text.specs.State.{script_name, Takes, Begun, IsSound, said_by};
+ghost use Rattle.workload_text.specs.InsideState.{script_name, Takes, Begun, IsSound, said_by};
 
 use crate::field::is_name;
 use crate::reading::{Reading, push, refused};

@@ -1,6 +1,6 @@
 use Rattle.std.proofs.Common.{arith, ◌∙◌, refl, ap}
 use Rattle.workload_text.specs.Reading.{is_space}
-use Rattle.workload_text.specs.Cuts.{fields_left}
+use Rattle.workload_text.specs.InsideCuts.{fields_left}
 use Rattle.workload_text.proofs.Splits.{part_ends, part_last}
 use Rattle.workload_text.proofs.cut.next_field.Goals as goal
 

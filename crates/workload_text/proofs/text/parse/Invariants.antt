@@ -1,5 +1,5 @@
 use Rattle.std.proofs.Common.{◌≤◌, ◌+◌, length}
-use Rattle.workload_text.specs.State.{IsSound}
+use Rattle.workload_text.specs.InsideState.{IsSound}
 use Rattle.workload_text.proofs.Lines.{ReadsOn, whole}
 use Rattle.workload_text.proofs.text.parse.Given as goal
 
