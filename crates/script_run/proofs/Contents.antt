@@ -5,9 +5,8 @@ use Rattle.std.proofs.lemmas.Bool.{cases_lt}
 use Rattle.std.proofs.lemmas.List.{get_or-map, length-map}
 use Rattle.std.proofs.lemmas.List.FromFn.{length-enumerate_from, get_or-enumerate_from}
 use Rattle.store_trait.specs.Memory.{page_of}
-use Rattle.store_trait.proofs.Rows.{rows_apart}
-use Rattle.store_trait.proofs.Shares.{page_of-append, page_of-appended}
 use Rattle.script_run.specs.Contents.{joined, contents_by}
+use Rattle.script_run.proofs.Lists.{rows_apart, page_of-append, page_of-appended}
 
 -- each page below n has one page of bytes
 pub record AreWhole (size n : ℕ) (page : ℕ → List ℕ) : Type 0 where

@@ -18,22 +18,21 @@ use Rattle.serial_pager.specs.Seen.{StripeSeen}
 use Rattle.serial_pager.specs.Holdings.{told_by_place, told_by_region}
 use Rattle.serial_pager.specs.Pagers as pagers
 use Rattle.serial_pager.specs.Pagers.{PagerSeen, AreLanesOf, AreRowsOf, core_in, core_at, stripe_at, held, kept, kept_in, count_at, count_in, IsKept}
-use Rattle.serial_pager.proofs.Opening.{same_items}
-use Rattle.serial_pager.proofs.Returns.{count_here}
 use Rattle.workload_text.specs.Grammar.{Region}
 use Rattle.script_run.specs.Serial.{bytes_at}
 use Rattle.script_run.specs.Contents.{joined, pages_in, page_told, origins_of, contents_of}
 use Rattle.script_run.specs.Fits.{FitLanes, pages_of}
 use Rattle.script_run.specs.FitsJournals.{setup_at}
 use Rattle.script_run.specs.FitsSerial.{spread_of, lane_at}
-use Rattle.script_run.specs.Ranges.{pages_at, key_of, HoldsRegion}
-use Rattle.script_run.specs.Running.{IsShaped, shape_of}
+use Rattle.script_run.specs.InsideRanges.{pages_at, key_of, HoldsRegion}
+use Rattle.script_run.specs.InsideRunning.{IsShaped, shape_of}
 use Rattle.script_run.specs.declared.settings.Settings.{Settings}
 use Rattle.script_run.proofs.Contents.{joined-same, get_or-contents_by}
 use Rattle.script_run.proofs.Zeros.{joined-page_of}
 use Rattle.script_run.proofs.FittedLanes.{there, lane_there, pages_fit, row_len, some_row, pages_of_shape}
 use Rattle.script_run.proofs.RanOne.{stripe_is}
 use Rattle.script_run.proofs.Ranged.{page_in_of}
+use Rattle.script_run.proofs.Lists.{same_items, count_here}
 
 some_x : {A : Type 0} {a b : A} → Some a ≡ Some b → a ≡ b
 some_x {A} {a} {b} e = ap (from a) e

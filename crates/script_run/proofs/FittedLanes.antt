@@ -19,7 +19,7 @@ use Rattle.workload_text.specs.Grammar.{Region}
 use Rattle.script_run.specs.Contents.{no_lane, pages_in}
 use Rattle.script_run.specs.Fits.{FitLanes, AreInRange, row_origins, pages_of}
 use Rattle.script_run.specs.FitsSerial.{lane_at}
-use Rattle.script_run.specs.Running.{shape_of}
+use Rattle.script_run.specs.InsideRunning.{shape_of}
 use Rattle.script_run.specs.declared.settings.Settings.{Settings}
 use Rattle.script_run.proofs.Openings.{origins_pages, item_at}
 use Rattle.script_run.proofs.Shapes.{few_pages, pages_of_shapes}

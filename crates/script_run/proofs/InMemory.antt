@@ -13,18 +13,18 @@ use Rattle.page_base.specs.declared.layout.Layout.{Layout}
 use Rattle.store_trait.specs.Memory.{memory_origin, page_of}
 use Rattle.store_trait.specs.MemLanes.{lane_origin, lane_seen}
 use Rattle.store_trait.specs.declared.mem_lane.MemLane.{MemLane}
-use Rattle.store_trait.proofs.Told.{told_of_page}
 use Rattle.workload_text.specs.Line.{Line, map_line, script_line, load_line, store_line, prefetch_line, flush_line, unmap_line}
 use Rattle.workload_text.specs.Grammar.{Region}
 use Rattle.workload_text.specs.Accepted.{AllFit, regions_of}
 use Rattle.script_run.specs.Serial.{serial_text}
 use Rattle.script_run.specs.Contents.{no_lane, rows_in, pages_in, contents_of}
 use Rattle.script_run.specs.Fits.{FitLanes, pages_of}
-use Rattle.script_run.specs.Replies.{Reply, nothing, begun, loaded, ok, fault, is_fault}
+use Rattle.script_run.specs.Replies.{Reply, nothing, begun, loaded, ok, unmapped, fault, spent, is_fault}
 use Rattle.script_run.specs.FitsSerial.{Spread, spread_of, stripe_in, lane_at, is_told, StoresTo, IsStored, MayAnswer, AllAnswer, left, count_in, counts_named, Rising, CountsFit, last_count, EndSeen, FitsSerial}
 use Rattle.script_run.specs.FitsLaws.{AllTold}
 use Rattle.script_run.proofs.FittedLanes.{there, lane_there, row_len, lane_is, pages_fit, some_row}
 use Rattle.script_run.proofs.WithoutFaults.{without_faults}
+use Rattle.script_run.proofs.Lists.{told_of_page}
 
 -- ---- a fault names a region that is there
 
@@ -76,6 +76,8 @@ module _ (gs : List Region) (t : Spread) (told : ℕ → Bool) where
   all_known before regions (l ∷ ls) (begun name ∷ more) fit all m = all_known (l ∷ before) (left regions l (begun name)) ls more fit.1 (known_more before l (fit.0, tt) all) m.1
   all_known before regions (l ∷ ls) (loaded bytes ∷ more) fit all m = all_known (l ∷ before) (left regions l (loaded bytes)) ls more fit.1 (known_more before l (fit.0, tt) all) m.1
   all_known before regions (l ∷ ls) (ok ∷ more) fit all m = all_known (l ∷ before) (left regions l ok) ls more fit.1 (known_more before l (fit.0, tt) all) m.1
+  all_known before regions (l ∷ ls) (unmapped ∷ more) fit all m = all_known (l ∷ before) (left regions l unmapped) ls more fit.1 (known_more before l (fit.0, tt) all) m.1
+  all_known before regions (l ∷ ls) (spent ∷ more) fit all m = all_known (l ∷ before) (left regions l spent) ls more fit.1 (known_more before l (fit.0, tt) all) m.1
 
 -- ---- where no count is named, there is no fault
 
@@ -91,6 +93,8 @@ none_named gs t (nothing ∷ more) some known none = none_named gs t more some k
 none_named gs t (begun name ∷ more) some known none = none_named gs t more some known none
 none_named gs t (loaded bytes ∷ more) some known none = none_named gs t more some known none
 none_named gs t (ok ∷ more) some known none = none_named gs t more some known none
+none_named gs t (unmapped ∷ more) some known none = none_named gs t more some known none
+none_named gs t (spent ∷ more) some known none = none_named gs t more some known none
 
 last_some : (n : ℕ) (ns : List ℕ) → 1 ≤ n → Rising n ns → 1 ≤ last_count n ns
 last_some n [] some rising = some

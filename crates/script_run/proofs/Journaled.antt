@@ -7,10 +7,10 @@ use Rattle.histories.specs.Histories.{History, by}
 use Rattle.page_base.specs.Lanes.{LaneSeen}
 use Rattle.page_base.specs.declared.keys.RegionShape.{RegionShape}
 use Rattle.page_model.specs.declared.entry.Entry.{Entry}
-use Rattle.page_model.specs.Core.{Core}
+use Rattle.page_model.specs.Core.{Core, LanePlace, Home}
 use Rattle.page_model.specs.Setups.{Setup}
 use Rattle.page_model.specs.Legal.{IsLegal}
-use Rattle.page_model.specs.Stands.{StandsFor, HomeLane}
+use Rattle.page_model.specs.Stands.{StandsFor, PlaceStands}
 use Rattle.page_model.specs.Readers.{IsHere}
 use Rattle.region_table.specs.Regions.{TableSeen, shapes_of}
 use Rattle.serial_pager.specs.Seen.{StripeSeen}
@@ -22,7 +22,7 @@ use Rattle.script_run.specs.Fits.{FitLanes}
 use Rattle.script_run.specs.FitsJournals.{setup_at, FitsJournals}
 use Rattle.script_run.specs.FitsSerial.{spread_of}
 use Rattle.script_run.specs.Tables.{table_of}
-use Rattle.script_run.specs.Running.{Ran, OpensOn}
+use Rattle.script_run.specs.InsideRunning.{Ran, OpensOn}
 use Rattle.script_run.specs.declared.replies.Replies.{Replies}
 use Rattle.script_run.specs.declared.settings.Settings.{Settings}
 use Rattle.script_run.proofs.FittedLanes.{there, lane_there}
@@ -32,8 +32,7 @@ use Rattle.script_run.proofs.SerialFits.{ended}
 use Rattle.script_run.proofs.Tabled.{as_many, shapes_are}
 
 module _ {J : Type 0} (has_noted : J → History Entry → Type 0) (c : Settings) (lines : List Line) (rows ends : List (List LaneSeen)) (journals : List J) (fit : FitLanes c.layout (regions_of lines) rows) (all : AllFit (regions_of lines) lines) (r0 r1 : Replies) (p q z : PagerSeen J) (opens : OpensOn c (regions_of lines) rows journals p) (ran : Ran has_noted (spread_of c.layout) (regions_of lines) [] lines r0 r1 p q) (same : IsSame q z) (are : AreRowsOf z ends)
-    (table : TableSeen) (table_is : table ≡ table_of c.layout.page_size lines) (built : is_built lines ≡ true) (empty : (s : ℕ) (journal : J) → slice_get journals s ≡ Some journal → has_noted journal []) (failed : Bool) (wrote : WroteDirty has_noted failed q z)
-    (like : (h : History Entry) (core : Core) (r : ℕ) (lane : LaneSeen) → StandsFor h core → IsHere core r lane → HomeLane core.setup h r lane) where
+    (table : TableSeen) (table_is : table ≡ table_of c.layout.page_size lines) (built : is_built lines ≡ true) (empty : (s : ℕ) (journal : J) → slice_get journals s ≡ Some journal → has_noted journal []) (failed : Bool) (wrote : WroteDirty has_noted failed q z) where
   went : WentAll has_noted (λ s. wrote.made s ++ ran.made s) p z
   went = all_more has_noted ran.made wrote.made p q z ran.same.stripes ran.went wrote.went
 
@@ -54,6 +53,10 @@ module _ {J : Type 0} (has_noted : J → History Entry → Type 0) (c : Settings
       let x = there p.stripes s (omega (arith, slice_get_within z.stripes s y is, same.stripes, ran.same.stripes)) in
       subst (λ (h : History Entry). StandsFor h y.core) (append-nil (by 0 (wrote.made s ++ ran.made s))) ((went s x.0 y x.1 is).stands [] (opens.stands s x.0.core (ap core_in x.1)))
 
+  -- a lane that a core has at home stands as one
+  home_stands : (h : History Entry) (core : Core) (r : ℕ) (lane : LaneSeen) → StandsFor h core → IsHere core r lane → PlaceStands core.setup h r (Home lane)
+  home_stands h core r lane stands here = subst (λ (place : LanePlace). PlaceStands core.setup h r place) here.home (stands.regions r here.region here.is).place
+
   pub fits_journals : (noted : List J) → noted ≡ map (λ (x : StripeSeen J). x.journal) z.stripes → FitsJournals has_noted c table lines rows ends ran.replies failed noted
   fits_journals noted are_noted = record {
     by_lines = ran.made;
@@ -71,9 +74,9 @@ module _ {J : Type 0} (has_noted : J → History Entry → Type 0) (c : Settings
     home = λ s r below known.
         let e = ended has_noted c lines rows ends journals fit all r0 r1 p q z opens ran same are s (omega (arith, below, fit.stripes)) in
         let lane = there e.end r (omega (arith, known, e.end_long, as_many lines, ap (λ (t : TableSeen). length t.regions) table_is)) in
-        let its = like (by 0 (wrote.made s ++ ran.made s)) e.stripe.core r lane.0 (stands_at s e.stripe e.at) (e.lanes.here r lane.0 lane.1) in
-        subst (λ (l : LaneSeen). HomeLane (setup_at c (shapes_of table) rows s) (by 0 (wrote.made s ++ ran.made s)) r l) (sym (lane_there ends s r e.end lane.0 e.is lane.1))
-        (subst (λ (u : Setup). HomeLane u (by 0 (wrote.made s ++ ran.made s)) r lane.0) (e.setup ∙ setup_is s) its);
+        let its = home_stands (by 0 (wrote.made s ++ ran.made s)) e.stripe.core r lane.0 (stands_at s e.stripe e.at) (e.lanes.here r lane.0 lane.1) in
+        subst (λ (l : LaneSeen). PlaceStands (setup_at c (shapes_of table) rows s) (by 0 (wrote.made s ++ ran.made s)) r (Home l)) (sym (lane_there ends s r e.end lane.0 e.is lane.1))
+        (subst (λ (u : Setup). PlaceStands u (by 0 (wrote.made s ++ ran.made s)) r (Home lane.0)) (e.setup ∙ setup_is s) its);
     some_failed = λ f. let x = wrote.some f in (x.0, omega (arith, x.1, ran.same.stripes, stripes_p), x.2);
     none_failed = wrote.none;
   }

@@ -1,3 +1,4 @@
+pub mod Lists
 pub mod Streaming
 pub mod Contents
 pub mod Pieces

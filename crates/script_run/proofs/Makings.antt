@@ -17,17 +17,19 @@ use Rattle.page_model.specs.declared.entry.Entry.{Entry}
 use Rattle.page_model.specs.declared.entry.Entry.TheVariants.{Load, Save, Raised, StartRead, Filled, Opened, Dropped, ReadFailed, WriteFailed, StartWrite, Evicted, Written, Hint, Closing, Unmapped}
 use Rattle.page_model.specs.Entries.{key_of, is_access}
 use Rattle.page_model.specs.Stands.{StandsFor}
-use Rattle.page_model.proofs.Changes.{slice_set_same, slice_set_other}
-use Rattle.region_table.specs.declared.pieces.Piece.{Piece}
+use Rattle.page_base.specs.declared.keys.Piece.{Piece}
 use Rattle.serial_pager.specs.Seen.{StripeSeen}
 use Rattle.serial_pager.specs.declared.fault.PageFault.{PageFault}
 use Rattle.serial_pager.specs.Accesses.{serves, is_pressure, AccessFails}
 use Rattle.serial_pager.specs.Goings.{Went, WentTo}
 use Rattle.serial_pager.specs.Pagers.{PagerSeen, OnStripe, IsSame, WentAll, stripe_at}
 use Rattle.script_run.proofs.FittedLanes.{there}
-use Rattle.script_run.specs.LineEntries.{accesses_by, loads, is_in, of_stripe, is_for_room, is_served, Fails, MakesInOrder}
-use Rattle.script_run.specs.Ranges.{GoesBy}
+use Rattle.script_run.specs.LineEntries.{is_for_room, is_served, Fails, MakesInOrder}
+use Rattle.page_model.specs.Pieces.{accesses_by, loads}
+use Rattle.page_model.specs.Entries.{lies_in, of_stripe}
+use Rattle.script_run.specs.InsideRanges.{GoesBy}
 use Rattle.script_run.proofs.Ranged.{same_stripe}
+use Rattle.script_run.proofs.Lists.{slice_set_same, slice_set_other}
 
 -- entries of one stripe alone
 abbrev pub at_stripe : ℕ → List Entry → ℕ → List Entry
@@ -128,7 +130,7 @@ module _ (stripe : Key → ℕ) where
         filter-append is_access (g.served s) (f.served s)
         ∙ ap (λ (es : List Entry). es ++ filter is_access (f.served s)) (g.in_order s)
         ∙ ap (λ (es : List Entry). reverse (of_stripe stripe s b) ++ es) (f.in_order s)
-        ∙ sym (ap reverse (filter-append (λ (e : Entry). is_in stripe s (key_of e)) a b) ∙ reverse-append (of_stripe stripe s a) (of_stripe stripe s b));
+        ∙ sym (ap reverse (filter-append (λ (e : Entry). lies_in stripe s (key_of e)) a b) ∙ reverse-append (of_stripe stripe s a) (of_stripe stripe s b));
     serve = λ s. list_all-append is_served (g.served s) (f.served s) ∙ and_from (list_all is_served (g.served s)) (list_all is_served (f.served s)) (g.serve s) (f.serve s);
   }
 
@@ -141,8 +143,8 @@ module _ (stripe : Key → ℕ) where
     serve = λ n. serve_ n (n == s) refl;
   }
     where
-      mine : (n : ℕ) → is_in stripe n (key_of e) ≡ (s == n)
-      mine n = ap (is_in stripe n) its ∙ ap (λ (m : ℕ). m == n) at
+      mine : (n : ℕ) → lies_in stripe n (key_of e) ≡ (s == n)
+      mine n = ap (lies_in stripe n) its ∙ ap (λ (m : ℕ). m == n) at
 
       order : (n : ℕ) (b : Bool) → (n == s) ≡ b → filter is_access (cond (n == s) (e ∷ before) []) ≡ reverse (of_stripe stripe n (e ∷ []))
       order n true h =
@@ -168,8 +170,8 @@ module _ (stripe : Key → ℕ) where
     serve = λ n. serve_ n (n == s) refl;
   }
     where
-      mine : (n : ℕ) → is_in stripe n (key_of e) ≡ (s == n)
-      mine n = ap (is_in stripe n) its ∙ ap (λ (m : ℕ). m == n) at
+      mine : (n : ℕ) → lies_in stripe n (key_of e) ≡ (s == n)
+      mine n = ap (lies_in stripe n) its ∙ ap (λ (m : ℕ). m == n) at
 
       made : (n : ℕ) (b : Bool) → (n == s) ≡ b → cond (n == s) (e ∷ before) [] ≡ of_stripe stripe n (e ∷ []) ++ cond (n == s) before []
       made n b h =
@@ -194,9 +196,9 @@ of_same : (f g : Key → ℕ) → ((k : Key) → f k ≡ g k) → (s : ℕ) (es 
 of_same f g same s [] = refl
 of_same f g same s (e ∷ es) =
     ap (λ (b : Bool). cond b (e ∷ of_stripe f s es) (of_stripe f s es)) (in_same (key_of e))
-    ∙ ap (λ (xs : List Entry). cond (is_in g s (key_of e)) (e ∷ xs) xs) (of_same f g same s es)
+    ∙ ap (λ (xs : List Entry). cond (lies_in g s (key_of e)) (e ∷ xs) xs) (of_same f g same s es)
   where
-    in_same : (o : Option Key) → is_in f s o ≡ is_in g s o
+    in_same : (o : Option Key) → lies_in f s o ≡ lies_in g s o
     in_same None = refl
     in_same (Some k) = ap (λ (n : ℕ). n == s) (same k)
 

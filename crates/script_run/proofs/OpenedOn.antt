@@ -22,20 +22,20 @@ use Rattle.serial_pager.specs.declared.pager.PagerConfig.{PagerConfig}
 use Rattle.serial_pager.specs.Seen.{StripeSeen}
 use Rattle.serial_pager.specs.Pagers as pagers
 use Rattle.serial_pager.specs.Pagers.{PagerSeen, config_of, CanOpen, IsMade, IsOpened, core_in, core_at, stripe_at, count_at}
-use Rattle.serial_pager.proofs.Opening.{same_items}
 use Rattle.workload_text.specs.Grammar.{Region, size_at}
 use Rattle.script_run.specs.Serial.{bytes_at}
 use Rattle.script_run.specs.Contents.{no_lane, joined, pages_in, page_told, contents_of}
 use Rattle.script_run.specs.Fits.{FitLanes, pages_of, has_whole_pages}
 use Rattle.script_run.specs.FitsSerial.{spread_of, lane_at, is_told}
 use Rattle.script_run.specs.FitsJournals.{setup_at}
-use Rattle.script_run.specs.Ranges.{pages_at, key_of, HoldsRegion}
-use Rattle.script_run.specs.Running.{IsShaped, Shows, OpensOn, shape_of}
+use Rattle.script_run.specs.InsideRanges.{pages_at, key_of, HoldsRegion}
+use Rattle.script_run.specs.InsideRunning.{IsShaped, Shows, OpensOn, shape_of}
 use Rattle.script_run.specs.declared.settings.Settings.{Settings}
 use Rattle.script_run.proofs.Contents.{AreWhole, length-joined, page_of-joined, length-contents_by, get_or-contents_by}
 use Rattle.script_run.proofs.Openings.{sizes_whole}
 use Rattle.script_run.proofs.FittedLanes.{there, lane_there, pages_of_shape, row_len, lane_is, pages_fit, some_row, AreWholeRows}
 use Rattle.script_run.proofs.RanOne.{stripe_is}
+use Rattle.script_run.proofs.Lists.{same_items}
 
 pub all_range : (P : ℕ → Bool) (a n : ℕ) → list_all P (range_with_len a n) ≡ true → (i : ℕ) → i < n → P (a + i) ≡ true
 all_range P a zero all i below = absurd (omega (arith, below))

@@ -15,8 +15,8 @@ use Rattle.workload_text.specs.View.{region_line}
 use Rattle.workload_text.specs.declared.workload.MapLine.{MapLine}
 use Rattle.script_run.specs.Replies.{nothing}
 use Rattle.script_run.specs.FitsSerial.{Spread}
-use Rattle.script_run.specs.Ranges.{pages_at}
-use Rattle.script_run.specs.Running.{IsShaped, MayRun, behind, Ran}
+use Rattle.script_run.specs.InsideRanges.{pages_at}
+use Rattle.script_run.specs.InsideRunning.{IsShaped, MayRun, behind, Ran}
 use Rattle.script_run.specs.declared.replies.Replies.{Replies}
 use Rattle.script_run.proofs.Makings.{all_none}
 use Rattle.script_run.proofs.Ranged.{same_pages, goes_none}

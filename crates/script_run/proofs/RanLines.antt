@@ -9,12 +9,12 @@ use Rattle.serial_pager.specs.Pagers.{PagerSeen, count_at, WentAll}
 use Rattle.workload_text.specs.Line.{Line, map_line, script_line, load_line, store_line, prefetch_line, flush_line, unmap_line}
 use Rattle.workload_text.specs.Grammar.{Region}
 use Rattle.workload_text.specs.Accepted.{loaded_bytes, command_count}
-use Rattle.script_run.specs.Rooms.{room, rooms}
+use Rattle.script_run.specs.InsideRooms.{room, rooms}
 use Rattle.script_run.specs.Replies.{Reply, reply_text, replies_text, is_fault, bytes_shown}
 use Rattle.script_run.specs.LineEntries.{Accesses, Failure, Makes, AllMake}
 use Rattle.script_run.specs.FitsSerial.{Spread, stripe_in, MayAnswer, AllAnswer, left, left_by, count_in, counts_named, Rising, last_count, CountsFit}
-use Rattle.script_run.specs.Ranges.{GoesOn}
-use Rattle.script_run.specs.Running.{Shows, behind, Ran}
+use Rattle.script_run.specs.InsideRanges.{GoesOn}
+use Rattle.script_run.specs.InsideRunning.{Shows, behind, Ran}
 use Rattle.script_run.specs.declared.replies.Replies.{Replies}
 use Rattle.script_run.proofs.Makings.{all_none, all_more, order_none}
 use Rattle.script_run.proofs.Ranged.{same_more}

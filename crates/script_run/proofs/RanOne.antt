@@ -17,12 +17,13 @@ use Rattle.serial_pager.specs.Pagers.{PagerSeen, group_in, page_in, has_page, ma
 use Rattle.workload_text.specs.Line.{Line, script_line, load_line, store_line}
 use Rattle.workload_text.specs.Grammar.{Region, size_at, writable_at}
 use Rattle.script_run.specs.Serial.{bytes_at, load_reply}
-use Rattle.script_run.specs.Rooms.{fault_room}
+use Rattle.script_run.specs.InsideRooms.{fault_room}
 use Rattle.script_run.specs.Replies.{begun, loaded, ok, fault, reply_text}
 use Rattle.script_run.specs.FitsSerial.{Spread, stripe_in, StoresTo, Names, EndsAt, piece_key, count_in, CountsFit}
-use Rattle.script_run.specs.LineEntries.{loads, saves, AreBefore, Fails, MakesInOrder}
-use Rattle.script_run.specs.Ranges.{IsRange, HoldsRegion, GoesOn, FaultsAt, GoesBy, BreaksOff}
-use Rattle.script_run.specs.Running.{IsShaped, Shows, Ran, shape_of}
+use Rattle.script_run.specs.LineEntries.{Fails, MakesInOrder}
+use Rattle.page_model.specs.Pieces.{loads, saves, AreBefore}
+use Rattle.script_run.specs.InsideRanges.{IsRange, HoldsRegion, GoesOn, FaultsAt, GoesBy, BreaksOff}
+use Rattle.script_run.specs.InsideRunning.{IsShaped, Shows, Ran, shape_of}
 use Rattle.script_run.specs.declared.replies.Replies.{Replies}
 use Rattle.script_run.proofs.Ranged.{region_kept, region_kept_in, goes_none}
 use Rattle.script_run.proofs.Makings.{all_none, order_same}
@@ -164,7 +165,7 @@ module _ {J : Type 0} (t : Spread) (gs : List Region) (p : PagerSeen J) (shaped 
           (record {
             accesses = loads (pieces_of p.page_size r off len) bytes;
             failure = [];
-            accesses_are = ap (λ z. loads (pieces_of z r off len) bytes) shaped.page_size;
+            accesses_are = (long, ap (λ z. loads (pieces_of z r off len) bytes) shaped.page_size);
             failure_is = refl;
             in_order = made_in (loads (pieces_of p.page_size r off len) bytes) [] by.made by.in_order;
           })

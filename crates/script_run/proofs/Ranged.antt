@@ -15,15 +15,15 @@ use Rattle.page_base.specs.Pages.{stripe_of}
 use Rattle.page_model.specs.Setups.{pages_of}
 use Rattle.region_table.specs.Covers.{AreJoined, CoversRange, IsPieceAt}
 use Rattle.region_table.specs.Pieces.{pieces_of}
-use Rattle.region_table.specs.declared.pieces.Piece.{Piece}
+use Rattle.page_base.specs.declared.keys.Piece.{Piece}
 use Rattle.store_trait.specs.Memory.{page_of}
-use Rattle.store_trait.proofs.Rows.{rows_apart}
 use Rattle.serial_pager.specs.declared.fault.PageFault.{PageFault}
 use Rattle.serial_pager.specs.Pagers.{PagerSeen, group_in, page_in, has_page, stripe_at, held, owes, count_at, IsPiece, IsSame, HoldsSame, CountsGrow, NamesFault}
 use Rattle.workload_text.specs.Line.{store_line}
 use Rattle.script_run.specs.FitsSerial.{piece_key, StoresTo}
-use Rattle.script_run.specs.Ranges.{pages_at, key_of, IsRange, HoldsRegion, GoesOn, FaultsAt}
+use Rattle.script_run.specs.InsideRanges.{pages_at, key_of, IsRange, HoldsRegion, GoesOn, FaultsAt}
 use Rattle.script_run.proofs.Pieces.{take_of_page, length-spliced}
+use Rattle.script_run.proofs.Lists.{rows_apart}
 
 pub page_in_of : (o : Option RegionShape) (page : ℕ) → page < pages_of o → page_in o page ≡ true
 page_in_of None page below = absurd (omega (arith, below))

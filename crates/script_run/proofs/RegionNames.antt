@@ -2,7 +2,7 @@
 use Rattle.std.proofs.Common.{◌≡◌, ℕ, zero, suc, ◌<◌, ◌≤◌, List, [], ◌∷◌, length, map, get_or, sym, ap, arith}
 use Rattle.workload_text.specs.Grammar.{Region, name_at}
 use Rattle.workload_text.specs.declared.workload.MapLine.{MapLine}
-use Rattle.script_run.specs.Rooms.{longest_name}
+use Rattle.script_run.specs.InsideRooms.{longest_name}
 use Rattle.workload_text.specs.View.{region}
 
 pub name_is : (ms : List MapLine) (r : ℕ) (m : MapLine) → r < length ms → m ≡ get_or ms r m → name_at (map region ms) r ≡ m.name.items

@@ -6,7 +6,7 @@ use Rattle.workload_text.specs.Line.{Line}
 use Rattle.workload_text.specs.Grammar.{Region}
 use Rattle.workload_text.specs.View.{region, region_line}
 use Rattle.workload_text.specs.declared.workload.MapLine.{MapLine}
-use Rattle.script_run.specs.Rooms.{longest_name, rooms}
+use Rattle.script_run.specs.InsideRooms.{longest_name, rooms}
 use Rattle.script_run.proofs.RanLines.{rooms-append}
 
 -- the names of the regions from one on

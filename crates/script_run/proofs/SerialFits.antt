@@ -15,15 +15,15 @@ use Rattle.workload_text.specs.Line.{Line, map_line, script_line, load_line, sto
 use Rattle.workload_text.specs.Grammar.{Region, writable_at}
 use Rattle.workload_text.specs.Accepted.{AllFit, IsRunnable, regions_of}
 use Rattle.workload_text.specs.Built.{is_built}
-use Rattle.script_run.specs.Rooms.{rooms}
+use Rattle.script_run.specs.InsideRooms.{rooms}
 use Rattle.script_run.specs.Serial.{bytes_at, stored}
 use Rattle.script_run.specs.Contents.{contents_of, origins_of}
 use Rattle.script_run.specs.Fits.{FitLanes}
-use Rattle.script_run.specs.Replies.{Reply, nothing, begun, loaded, ok, fault, is_fault, replies_text}
+use Rattle.script_run.specs.Replies.{Reply, nothing, begun, loaded, ok, unmapped, fault, spent, is_fault, replies_text}
 use Rattle.script_run.specs.FitsSerial.{spread_of, lane_at, is_told, StoresTo, IsStored, AllAnswer, left, left_by, counts_named, CountsFit, NoMore, last_count, EndSeen, FitsSerial}
 use Rattle.script_run.specs.FitsJournals.{setup_at}
-use Rattle.script_run.specs.Ranges.{HoldsRegion}
-use Rattle.script_run.specs.Running.{IsShaped, MayRun, Shows, Ran, OpensOn, behind, shape_of}
+use Rattle.script_run.specs.InsideRanges.{HoldsRegion}
+use Rattle.script_run.specs.InsideRunning.{IsShaped, MayRun, Shows, Ran, OpensOn, behind, shape_of}
 use Rattle.script_run.specs.declared.settings.Settings.{Settings}
 use Rattle.script_run.specs.declared.replies.Replies.{Replies}
 use Rattle.script_run.proofs.Ranged.{region_kept, same_more}
@@ -59,6 +59,8 @@ module _ (gs : List Region) (r : ℕ) (closed : writable_at gs r ≡ false) wher
   left_alone regions (store_line n off bytes) (begun name) fit = apart n off bytes fit.0.writable regions
   left_alone regions (store_line n off bytes) (loaded b) fit = apart n off bytes fit.0.writable regions
   left_alone regions (store_line n off bytes) ok fit = apart n off bytes fit.0.writable regions
+  left_alone regions (store_line n off bytes) unmapped fit = apart n off bytes fit.0.writable regions
+  left_alone regions (store_line n off bytes) spent fit = apart n off bytes fit.0.writable regions
   left_alone regions (map_line name backing size writable) a fit = refl
   left_alone regions (script_line name) a fit = refl
   left_alone regions (load_line n off len) a fit = refl

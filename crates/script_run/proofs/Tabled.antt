@@ -11,8 +11,8 @@ use Rattle.workload_text.specs.Accepted.{regions_of}
 use Rattle.workload_text.specs.Built.{is_built}
 use Rattle.script_run.specs.Fits.{pages_of}
 use Rattle.script_run.specs.Tables.{regions_seen, table_of}
-use Rattle.script_run.specs.Ranges.{IsListed}
-use Rattle.script_run.specs.Running.{shape_of}
+use Rattle.script_run.specs.InsideRanges.{IsListed}
+use Rattle.script_run.specs.InsideRunning.{shape_of}
 use Rattle.script_run.proofs.Shapes.{pages_of_shapes}
 
 pub as_many : (lines : List Line) → length (regions_seen lines) ≡ length (regions_of lines)

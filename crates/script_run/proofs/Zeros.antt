@@ -14,7 +14,6 @@ use Rattle.page_base.specs.Lanes.{Origin, LaneSeen, has_page, told_at}
 use Rattle.page_base.specs.declared.layout.Layout.{Layout}
 use Rattle.store_trait.specs.Memory.{memory_origin, page_of}
 use Rattle.store_trait.specs.MemLanes.{lane_seen, AreLanesOf}
-use Rattle.store_trait.proofs.Told.{told_of_page}
 use Rattle.store_trait.specs.declared.mem_lane.MemLane.{MemLane}
 use Rattle.workload_text.specs.Line.{Line, map_line, script_line, load_line, store_line, prefetch_line, flush_line, unmap_line}
 use Rattle.workload_text.specs.Grammar.{Region, size_at}
@@ -28,10 +27,11 @@ use Rattle.workload_text.specs.declared.workload.Script.{Script}
 use Rattle.workload_text.specs.declared.workload.Workload.{Workload}
 use Rattle.script_run.specs.Contents.{joined, contents_by, contents_of, page_told, rows_in, pages_in, origins_of, no_lane}
 use Rattle.script_run.specs.Fits.{FitLanes, has_whole_pages, pages_of, row_origins}
-use Rattle.script_run.specs.Zeros.{AreSmall, PutsLanes, AreZeroRows, zero_lane, zero_row}
+use Rattle.script_run.specs.InsideZeros.{AreSmall, PutsLanes, AreZeroRows, zero_lane, zero_row}
 use Rattle.script_run.proofs.Contents.{joined-same}
 use Rattle.script_run.proofs.Openings.{item_at, origins_pages, sizes_small}
 use Rattle.script_run.proofs.Streaming.{take_take_drop}
+use Rattle.script_run.proofs.Lists.{told_of_page}
 
 -- ---- the regions of a workload are those of its `map` lines
 

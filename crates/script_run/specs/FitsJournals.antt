@@ -8,7 +8,8 @@ use Rattle.page_base.specs.Lanes.{LaneSeen}
 use Rattle.page_model.specs.declared.entry.Entry.{Entry}
 use Rattle.page_model.specs.Setups.{Setup}
 use Rattle.page_model.specs.Legal.{IsLegal}
-use Rattle.page_model.specs.Stands.{HomeLane}
+use Rattle.page_model.specs.Core.{Home}
+use Rattle.page_model.specs.Stands.{PlaceStands}
 use Rattle.region_table.specs.Regions.{TableSeen, shapes_of}
 use Rattle.serial_pager.specs.Writings.{flushes, is_failed_write}
 use Rattle.workload_text.specs.Line.{Line}
@@ -41,6 +42,6 @@ pub record FitsJournals {J : Type 0} (has_noted : J → History Entry → Type 0
   pub noted : (s : ℕ) (journal : J) → slice_get journals s ≡ Some journal → has_noted journal (by 0 (last s ++ by_lines s))
   pub legal : (s : ℕ) → s < c.layout.stripes → IsLegal (setup_at c (shapes_of table) rows s) (by 0 (last s ++ by_lines s))
   pub home : (s r : ℕ) → s < c.layout.stripes → r < length table.regions
-      → HomeLane (setup_at c (shapes_of table) rows s) (by 0 (last s ++ by_lines s)) r (lane_at ends s r)
+      → PlaceStands (setup_at c (shapes_of table) rows s) (by 0 (last s ++ by_lines s)) r (Home (lane_at ends s r))
   pub some_failed : failed ≡ true → (s : ℕ) × (s < c.layout.stripes) × (list_any is_failed_write (last s) ≡ true)
   pub none_failed : failed ≡ false → (s : ℕ) → list_any is_failed_write (last s) ≡ false

@@ -1,11 +1,22 @@
 -- What follows from a run's meaning with faults, as statements.
-use Rattle.std.specs.Prelude.{◌≡◌, ℕ, ◌<◌, true, false, List, length}
+use Rattle.std.specs.Prelude.{◌≡◌, ℕ, ◌<◌, true, false, List, length, map}
 use Rattle.page_base.specs.Lanes.{LaneSeen}
 use Rattle.workload_text.specs.Line.{Line}
-use Rattle.workload_text.specs.Accepted.{regions_of}
+use Rattle.page_base.specs.ListSeen.{ListSeen}
+use Rattle.page_base.specs.declared.layout.Layout.{Layout}
+use Rattle.store_trait.specs.declared.mem_lane.MemLane.{MemLane}
+use Rattle.workload_text.specs.Line.{TextLine}
+use Rattle.workload_text.specs.Grammar.{lines_in}
+use Rattle.workload_text.specs.Accepted.{AllFit, regions_of}
+use Rattle.workload_text.specs.Answers.{map_numbers}
+use Rattle.workload_text.specs.View.{region, lines_of}
+use Rattle.workload_text.specs.declared.workload.Workload.{Workload}
 use Rattle.script_run.specs.Serial.{bytes_at, serial_text, serial_end}
-use Rattle.script_run.specs.Contents.{contents_of}
-use Rattle.script_run.specs.FitsSerial.{Spread, is_told, EndSeen, FitsSerial}
+use Rattle.script_run.specs.Contents.{contents_of, rows_in}
+use Rattle.script_run.specs.Fits.{FitLanes}
+use Rattle.script_run.specs.FitsSerial.{Spread, spread_of, is_told, EndSeen, FitsSerial}
+use Rattle.script_run.specs.RegionRules.{region_seen}
+use Rattle.script_run.specs.Tables.{regions_seen}
 
 -- the lanes tell every region
 abbrev pub AllTold : List (List LaneSeen) → Type 0
@@ -21,3 +32,17 @@ abbrev pub WithoutFaults : Type 0
 WithoutFaults =
     (t : Spread) (lines : List Line) (rows ends : List (List LaneSeen)) (e : EndSeen)
     → FitsSerial t lines rows ends e → AllTold rows → e.faulted ≡ false → IsSerial lines rows ends e.text
+
+-- a run over lanes in memory answers the serial text
+abbrev pub MemoryRunsAreSerial : Type 0
+MemoryRunsAreSerial =
+    (layout : Layout) (lines : List Line) (stripes ends : List (ListSeen MemLane)) (e : EndSeen)
+    → FitLanes layout (regions_of lines) (rows_in stripes) → AllFit (regions_of lines) lines
+    → FitsSerial (spread_of layout) lines (rows_in stripes) (rows_in ends) e
+    → e.text ≡ serial_text (contents_of (rows_in stripes)) lines
+
+-- the regions of a workload's lines are those of its `map` lines, by both views of them, and each stands on a line
+pub record RegionsAreMaps : Type 0 where
+  pub regions : (w : Workload) → regions_of (lines_of w) ≡ map region w.maps.items
+  pub seen : (w : Workload) → regions_seen (lines_of w) ≡ map region_seen w.maps.items
+  pub numbered : (n : ℕ) (texts : List TextLine) → length (map_numbers n texts) ≡ length (regions_seen (lines_in texts))

@@ -4,11 +4,12 @@ use Rattle.std.specs.Prelude.{◌≡◌, ℕ, ◌+◌, ◌⊎◌, ◌==◌, Bool
 use Rattle.std.specs.List.{list_all}
 use Rattle.page_base.specs.declared.keys.Key.{Key}
 use Rattle.page_model.specs.declared.entry.Cause.{Cause}
-use Rattle.page_model.specs.declared.entry.Cause.TheVariants.{Pressure}
+use Rattle.page_model.specs.declared.entry.Cause.TheVariants.{Pressure, Flush, Unmap}
 use Rattle.page_model.specs.declared.entry.Entry.{Entry}
-use Rattle.page_model.specs.declared.entry.Entry.TheVariants.{Load, Save, Hint, ReadFailed, WriteFailed, StartWrite, Evicted, Closing, Unmapped}
-use Rattle.page_model.specs.Entries.{key_of, is_access}
-use Rattle.region_table.specs.declared.pieces.Piece.{Piece}
+use Rattle.page_model.specs.declared.entry.Entry.TheVariants.{Load, Save, Raised, StartRead, Filled, ReadFailed, Opened, Dropped, StartWrite, Written, WriteFailed, Evicted, Hint, Closing, Unmapped}
+use Rattle.page_model.specs.Entries.{is_access, of_stripe}
+use Rattle.page_model.specs.Pieces.{AreBefore, loads, saves}
+use Rattle.page_base.specs.declared.keys.Piece.{Piece}
 use Rattle.region_table.specs.Pieces.{pieces_of}
 use Rattle.workload_text.specs.Line.{Line, load_line, store_line}
 use Rattle.script_run.specs.Replies.{Reply, loaded, ok, fault}
@@ -16,27 +17,9 @@ use Rattle.script_run.specs.FitsSerial.{Spread, stripe_in, piece_key}
 
 -- ---- accesses
 
--- one access a piece, in order; the pieces share these bytes out
-abbrev pub accesses_by : (access : Key → (place : ℕ) → List ℕ → Entry) → List Piece → List ℕ → List Entry
-accesses_by access [] bytes = []
-accesses_by access (p ∷ ps) bytes = access p.key p.place (take p.len bytes) ∷ accesses_by access ps (drop p.len bytes)
-
-abbrev pub loads : List Piece → List ℕ → List Entry
-loads ps bytes = accesses_by (λ k place its. Load k place its) ps bytes
-
-abbrev pub saves : List Piece → List ℕ → List Entry
-saves ps bytes = accesses_by (λ k place its. Save k place its) ps bytes
-
--- these are the pieces before one of all, and have `done` bytes together
-pub record AreBefore (all : List Piece) (done : ℕ) (ps : List Piece) : Type 0 where
-  pub next : Piece
-  pub rest : List Piece
-  pub all_are : all ≡ ps ++ next ∷ rest
-  pub bytes : sum_by (λ (p : Piece). p.len) ps ≡ done
-
 -- the accesses of a line that was answered so, in order: all its pieces, or those before the one that a fault ended
 abbrev pub Accesses : (page_size : ℕ) → Line → Reply → List Entry → Type 0
-Accesses z (load_line r off len) (loaded bytes) es = es ≡ loads (pieces_of z r off len) bytes
+Accesses z (load_line r off len) (loaded bytes) es = (length bytes ≡ len) × (es ≡ loads (pieces_of z r off len) bytes)
 Accesses z (load_line r off len) (fault k count done) es =
     (ps : List Piece) × (bytes : List ℕ) × AreBefore (pieces_of z r off len) done ps × (length bytes ≡ done) × (es ≡ loads ps bytes)
 Accesses z (store_line r off bytes) ok es = es ≡ saves (pieces_of z r off (length bytes)) bytes
@@ -58,27 +41,28 @@ Failure z l reply es = es ≡ []
 
 -- ---- one line
 
-abbrev pub is_in : (stripe : Key → ℕ) → ℕ → Option Key → Bool
-is_in stripe s None = false
-is_in stripe s (Some k) = stripe k == s
-
--- those entries that are of a page of one stripe
-abbrev pub of_stripe : (stripe : Key → ℕ) → ℕ → List Entry → List Entry
-of_stripe stripe s es = filter (λ e. is_in stripe s (key_of e)) es
-
 abbrev pub is_for_room : Cause → Bool
 is_for_room Pressure = true
-is_for_room why = false
+is_for_room Flush = false
+is_for_room Unmap = false
 
 -- A load, a store, or a service of page faults: writes and evictions are to make room, and no write fails
 abbrev pub is_served : Entry → Bool
+is_served (Load k place bytes) = true
+is_served (Save k place bytes) = true
+is_served (Raised k why) = true
+is_served (StartRead k) = true
+is_served (Filled k) = true
+is_served (Opened k) = true
+is_served (Dropped k) = true
+is_served (ReadFailed k n) = true
+is_served (WriteFailed k n) = false
 is_served (StartWrite k why) = is_for_room why
 is_served (Evicted k why) = is_for_room why
-is_served (WriteFailed k n) = false
+is_served (Written k at bytes) = true
 is_served (Hint k answer) = false
 is_served (Closing r) = false
 is_served (Unmapped r) = false
-is_served e = true
 
 -- These accesses were made in order, each in its page's stripe, with services of page faults between them; then the failure,
 -- in its stripe behind all else

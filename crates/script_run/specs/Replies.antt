@@ -6,13 +6,16 @@ use Rattle.page_base.specs.declared.keys.Key.{Key}
 use Rattle.workload_text.specs.Grammar.{Region, name_at}
 use Rattle.script_run.specs.Serial.{load_reply}
 
--- `done` is how many bytes of the line's range were done before the piece that the fault ends; the text doesn't show it
+-- The answers of both kinds of run; a serial run has no pass that could be spent. `done` is how many bytes of the range
+-- were done before the piece that the fault ends; the text doesn't show it
 pub data Reply : Type 0 where
   nothing : Reply
   begun : (name : List ℕ) → Reply
   loaded : (bytes : List ℕ) → Reply
   ok : Reply
+  unmapped : Reply
   fault : (key : Key) (count done : ℕ) → Reply
+  spent : Reply
 
 -- a fault names its page by the region's name and the page's number
 abbrev pub fault_reply : (name : List ℕ) → (page count : ℕ) → List ℕ
@@ -23,7 +26,9 @@ reply_text regions nothing = []
 reply_text regions (begun name) = codes "script " ++ (name ++ 10 ∷ [])
 reply_text regions (loaded bytes) = load_reply bytes
 reply_text regions ok = codes "ok\n"
+reply_text regions unmapped = codes "unmapped\n"
 reply_text regions (fault key count done) = fault_reply (name_at regions key.region) key.page count
+reply_text regions spent = codes "spent\n"
 
 abbrev pub replies_text : List Region → List Reply → List ℕ
 replies_text regions replies = flat_map (reply_text regions) replies

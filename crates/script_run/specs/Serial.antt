@@ -1,5 +1,5 @@
--- What a workload means when its lines run one after another: the text that they answer, the bytes that they leave, and
--- the bytes that they load. The state is the bytes of every region, in order of region.
+-- What a workload means when its lines run one after another: the text that they answer, and the bytes that
+-- they leave. The state is the bytes of every region, in order of region.
 use Rattle.std.specs.Prelude.{ℕ, List, [], ◌∷◌, ◌++◌, slice_index_or, slice_set, take, drop, map, replicate, codes}
 use Rattle.hex.specs.Hex.{encode_lower}
 use Rattle.page_base.specs.ListSeen.{spliced}
@@ -46,8 +46,3 @@ serial_text regions (l ∷ ls) = reply regions l ++ serial_text (stored regions 
 abbrev pub serial_end : List (List ℕ) → List Line → List (List ℕ)
 serial_end regions [] = regions
 serial_end regions (l ∷ ls) = serial_end (stored regions l) ls
-
--- all loaded bytes, in order
-abbrev pub serial_loads : List (List ℕ) → List Line → List ℕ
-serial_loads regions [] = []
-serial_loads regions (l ∷ ls) = loaded regions l ++ serial_loads (stored regions l) ls

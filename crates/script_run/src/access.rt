@@ -7,8 +7,8 @@ ghost use Rattle.region_table.specs.Pieces.{pieces_of};
 ghost use Rattle.serial_pager.specs.Pagers.{has_page, held, owes, is_writable, HoldsSame, journals_made};
 ghost use Rattle.workload_text.specs.Line.{store_line};
 ghost use Rattle.script_run.specs.FitsSerial.{StoresTo, piece_key};
-ghost use Rattle.script_run.specs.LineEntries.{loads, saves};
-ghost use Rattle.script_run.specs.Ranges.{IsRange, IsListed, HoldsRegion, GoesOn, FaultsAt, GoesBy, BreaksOff};
+ghost use Rattle.page_model.specs.Pieces.{loads, saves};
+ghost use Rattle.script_run.specs.InsideRanges.{IsRange, IsListed, HoldsRegion, GoesOn, FaultsAt, GoesBy, BreaksOff};
 
 use page_model::Journal;
 use region_table::RegionTable;

@@ -7,7 +7,7 @@ ghost use Rattle.workload_text.specs.Accepted.{IsRunnable, regions_of};
 ghost use Rattle.script_run.specs.Serial.{zeros_of};
 ghost use Rattle.script_run.specs.Contents.{rows_in, rows_seen, contents_of};
 ghost use Rattle.script_run.specs.Fits.{FitLanes, has_whole_pages};
-ghost use Rattle.script_run.specs.Zeros.{AreSmall, PutsLanes, AreZeroRows};
+ghost use Rattle.script_run.specs.InsideZeros.{AreSmall, PutsLanes, AreZeroRows};
 
 use crate::settings::Settings;
 use page_base::{Bytes, Layout, List, OutOfMemory};

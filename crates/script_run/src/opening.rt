@@ -3,7 +3,7 @@ ghost use Rattle.std.specs.Prelude.{◌≡◌, ◌≤◌, [], IfOk, IfErr};
 ghost use Rattle.region_table.specs.Regions.{shapes_of, page_count};
 ghost use Rattle.serial_pager.specs.Pagers.{rows_of};
 ghost use Rattle.workload_text.specs.Accepted.{regions_of};
-ghost use Rattle.script_run.specs.Running.{MayOpen, OpensOn};
+ghost use Rattle.script_run.specs.InsideRunning.{MayOpen, OpensOn};
 
 use crate::settings::Settings;
 use page_base::{List, OutOfMemory, RegionShape};

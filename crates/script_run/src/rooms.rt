@@ -4,7 +4,7 @@
 ghost use Rattle.std.specs.Prelude.{◌≡◌, map, IfSome};
 ghost use Rattle.workload_text.specs.View.{lines_of, script_lines, command_line, region};
 ghost use Rattle.workload_text.specs.Accepted.{regions_of};
-ghost use Rattle.script_run.specs.Rooms.{longest_name, fault_room, room, rooms};
+ghost use Rattle.script_run.specs.InsideRooms.{longest_name, fault_room, room, rooms};
 
 use workload_text::{Command, MapLine, Script, Workload};
 

@@ -13,9 +13,9 @@ ghost use Rattle.script_run.specs.Fits.{FitLanes, AreInRange};
 ghost use Rattle.script_run.specs.FitsJournals.{FitsJournals};
 ghost use Rattle.script_run.specs.Ends.{end_of, lanes_in};
 ghost use Rattle.script_run.specs.Replies.{fault_reply};
-ghost use Rattle.script_run.specs.Rooms.{fault_room};
+ghost use Rattle.script_run.specs.InsideRooms.{fault_room};
 ghost use Rattle.script_run.specs.FitsSerial.{Spread, spread_of, FitsSerial};
-ghost use Rattle.script_run.specs.Running.{IsShaped, MayRun, Ran};
+ghost use Rattle.script_run.specs.InsideRunning.{IsShaped, MayRun, Ran};
 ghost use Rattle.script_run.specs.Tables.{table_of};
 
 use crate::access::{load, store};
@@ -25,7 +25,6 @@ use crate::rooms::room_of;
 use crate::settings::Settings;
 use page_base::{Bytes, List};
 use page_model::Journal;
-use page_model::events::service_knows;
 use region_table::RegionTable;
 use serial_pager::{PageFault, SerialPager};
 use std::alloc::Global;
@@ -201,7 +200,6 @@ pub fn serial<S: Store, J: Journal>(
     );
     let failed = pager.write_dirty();
     pager.unowed_is_kept();
-    service_knows();
     let (lanes, noted) = pager.into_parts();
     put_journals(journals, noted);
     let faulted = is_faulted(&replies, failed);

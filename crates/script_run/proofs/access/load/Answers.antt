@@ -6,14 +6,14 @@ use borrow.Rule.Slice.PartMut.{put_mid}
 use Rattle.page_model.specs.declared.entry.Entry.TheVariants.{Load}
 use Rattle.region_table.specs.Cuts.{rest_of}
 use Rattle.region_table.specs.Pieces.{pieces_of}
-use Rattle.region_table.specs.declared.pieces.Piece.{Piece}
+use Rattle.page_base.specs.declared.keys.Piece.{Piece}
 use Rattle.store_trait.specs.Memory.{page_of}
 use Rattle.serial_pager.specs.Accesses.{is_read}
 use Rattle.serial_pager.specs.Holdings as one
 use Rattle.serial_pager.specs.Pagers.{IsPiece, held}
 use Rattle.script_run.specs.FitsSerial.{piece_key}
-use Rattle.script_run.specs.LineEntries.{loads}
-use Rattle.script_run.specs.Ranges.{key_of, GoesBy}
+use Rattle.page_model.specs.Pieces.{loads}
+use Rattle.script_run.specs.InsideRanges.{key_of, GoesBy}
 use Rattle.script_run.proofs.Pieces.{length-put_mid}
 use Rattle.script_run.proofs.Accesses.{loaded_more}
 use Rattle.script_run.proofs.Makings.{by_none, by_access, by_failure, FailsBy, loads_more}

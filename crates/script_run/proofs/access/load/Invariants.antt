@@ -3,8 +3,8 @@ use Rattle.page_base.specs.declared.keys.Key.{Key}
 use Rattle.region_table.specs.Cuts.{rest_of}
 use Rattle.region_table.specs.Pieces.{pieces_of}
 use Rattle.serial_pager.specs.Pagers.{owes, HoldsSame, journals_made}
-use Rattle.script_run.specs.LineEntries.{loads}
-use Rattle.script_run.specs.Ranges.{HoldsRegion, GoesOn, GoesBy}
+use Rattle.page_model.specs.Pieces.{loads}
+use Rattle.script_run.specs.InsideRanges.{HoldsRegion, GoesOn, GoesBy}
 use Rattle.script_run.proofs.Ranged.{lengths}
 use Rattle.script_run.proofs.access.load.Given as goal
 

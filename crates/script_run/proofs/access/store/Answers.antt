@@ -7,14 +7,14 @@ use Rattle.page_base.specs.declared.keys.Key.{Key}
 use Rattle.page_model.specs.declared.entry.Entry.TheVariants.{Save}
 use Rattle.region_table.specs.Cuts.{rest_of}
 use Rattle.region_table.specs.Pieces.{pieces_of}
-use Rattle.region_table.specs.declared.pieces.Piece.{Piece}
+use Rattle.page_base.specs.declared.keys.Piece.{Piece}
 use Rattle.workload_text.specs.Line.{store_line}
 use Rattle.serial_pager.specs.Holdings as one
 use Rattle.serial_pager.specs.Holdings.{is_for_store}
 use Rattle.serial_pager.specs.Pagers.{IsPiece, may_store, held}
 use Rattle.script_run.specs.FitsSerial.{StoresTo, piece_key}
-use Rattle.script_run.specs.LineEntries.{saves}
-use Rattle.script_run.specs.Ranges.{key_of, HoldsRegion, GoesBy}
+use Rattle.page_model.specs.Pieces.{saves}
+use Rattle.script_run.specs.InsideRanges.{key_of, HoldsRegion, GoesBy}
 use Rattle.script_run.proofs.Accesses.{spliced-spliced}
 use Rattle.script_run.proofs.Makings.{by_none, by_access, by_failure, FailsBy, accesses_snoc}
 use Rattle.script_run.proofs.Ranged.{IsNext, next_piece, all_done, goes_none, goes_more, goes_within, one_piece, same_page, key_is, page_is, page_below, is_piece, faults_at, region_stored, region_kept, spliced_none, stores_to, same_pages}

@@ -6,8 +6,8 @@ use Rattle.region_table.specs.Pieces.{pieces_of}
 use Rattle.workload_text.specs.Line.{store_line}
 use Rattle.serial_pager.specs.Pagers.{has_page, held, owes, journals_made}
 use Rattle.script_run.specs.FitsSerial.{StoresTo}
-use Rattle.script_run.specs.LineEntries.{saves}
-use Rattle.script_run.specs.Ranges.{HoldsRegion, GoesOn, GoesBy}
+use Rattle.page_model.specs.Pieces.{saves}
+use Rattle.script_run.specs.InsideRanges.{HoldsRegion, GoesOn, GoesBy}
 use Rattle.script_run.proofs.Ranged.{lengths}
 use Rattle.script_run.proofs.access.store.Given as goal
 

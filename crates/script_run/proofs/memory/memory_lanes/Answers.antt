@@ -7,7 +7,7 @@ use Rattle.workload_text.specs.declared.workload.MapLine.{MapLine}
 use Rattle.store_trait.specs.declared.mem_lane.MemLane.{MemLane}
 use Rattle.page_base.specs.ListSeen.{ListSeen}
 use Rattle.script_run.specs.Contents.{rows_in}
-use Rattle.script_run.specs.Zeros.{AreSmall, AreZeroRows}
+use Rattle.script_run.specs.InsideZeros.{AreSmall, AreZeroRows}
 use Rattle.script_run.proofs.Zeros.{regions_are, regions_small, zeros_fit, zeros_are}
 use Rattle.script_run.proofs.memory.memory_lanes.Goals as goal
 

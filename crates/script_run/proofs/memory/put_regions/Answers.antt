@@ -1,12 +1,16 @@
-use Rattle.std.proofs.Common.{◌≡◌, ◌<◌, ◌≤◌, ◌*◌, ◌/◌, ℕ, length, map, get_or, sym, subst, arith}
+use Rattle.std.proofs.Common.{◌≡◌, ◌<◌, ◌≤◌, ◌*◌, ◌/◌, ℕ, zero, suc, List, [], ◌∷◌, length, map, get_or, refl, sym, subst, arith}
 use Rattle.std.proofs.lemmas.List.{length-map, get_or-map}
-use Rattle.workload_text.specs.Grammar.{Region}
+use Rattle.workload_text.specs.Grammar.{Region, size_at}
 use Rattle.workload_text.specs.View.{region}
 use Rattle.workload_text.specs.declared.workload.MapLine.{MapLine}
-use Rattle.workload_text.proofs.RegionLists.{size_at-read}
 use Rattle.script_run.specs.Contents.{rows_in}
 use Rattle.script_run.proofs.Zeros.{rows_begin, rows_more}
 use Rattle.script_run.proofs.memory.put_regions.Goals as goal
+
+size_at-read : (ms : List MapLine) (i : ℕ) (d : MapLine) → i < length ms → (get_or ms i d).length ≡ size_at (map region ms) i
+size_at-read [] i d h = absurd (omega arith)
+size_at-read (m ∷ ms) zero d h = refl
+size_at-read (m ∷ ms) (suc i) d h = size_at-read ms i d (omega arith)
 
 pub loop-i-init : goal.loop-i-init
 loop-i-init c = rows_begin c.args.layout.now.page_size c.args.layout.now.stripes (rows_in c.args.rows.now) c.requires.empty

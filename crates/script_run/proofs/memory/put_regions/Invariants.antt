@@ -1,7 +1,7 @@
 use Rattle.std.proofs.Common.{take, map}
 use Rattle.workload_text.specs.View.{region}
 use Rattle.script_run.specs.Contents.{rows_in}
-use Rattle.script_run.specs.Zeros.{AreZeroRows}
+use Rattle.script_run.specs.InsideZeros.{AreZeroRows}
 use Rattle.script_run.proofs.memory.put_regions.Given as goal
 
 abbrev pub invariant-loop-i : goal.invariant-loop-i

@@ -3,7 +3,7 @@ use Rattle.region_table.specs.Regions.{shapes_of, page_count}
 use Rattle.serial_pager.specs.Pagers.{rows_of, CanOpen}
 use Rattle.serial_pager.specs.declared.pager.PagerConfig.{PagerConfig}
 use Rattle.workload_text.specs.Accepted.{regions_of}
-use Rattle.script_run.specs.Running.{MayOpen, shape_of}
+use Rattle.script_run.specs.InsideRunning.{MayOpen, shape_of}
 use Rattle.script_run.proofs.Openings.{sizes_small}
 use Rattle.script_run.proofs.FittedLanes.{can_open, whole_rows}
 use Rattle.script_run.proofs.OpenedOn.{opens_on}

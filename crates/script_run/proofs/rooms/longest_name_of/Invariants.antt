@@ -1,6 +1,6 @@
 use Rattle.std.proofs.Common.{◌≡◌, max, drop, map}
 use Rattle.workload_text.specs.View.{region}
-use Rattle.script_run.specs.Rooms.{longest_name}
+use Rattle.script_run.specs.InsideRooms.{longest_name}
 use Rattle.script_run.proofs.rooms.longest_name_of.Given as goal
 
 abbrev pub invariant-loop-i : goal.invariant-loop-i

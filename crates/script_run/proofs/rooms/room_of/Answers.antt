@@ -4,7 +4,7 @@ use Rattle.workload_text.specs.Accepted.{regions_of}
 use Rattle.workload_text.specs.View.{region, region_line, script_lines, lines_of}
 use Rattle.workload_text.specs.declared.workload.MapLine.{MapLine}
 use Rattle.workload_text.specs.declared.workload.Script.{Script}
-use Rattle.script_run.specs.Rooms.{longest_name, fault_room, rooms}
+use Rattle.script_run.specs.InsideRooms.{longest_name, fault_room, rooms}
 use Rattle.script_run.proofs.RanLines.{rooms-append}
 use Rattle.script_run.proofs.RoomsLeft.{next_room, rooms-maps}
 use Rattle.script_run.proofs.Zeros.{regions_are}

@@ -1,7 +1,7 @@
 use Rattle.std.proofs.Common.{◌≡◌, ◌+◌, List, drop, map}
 use Rattle.workload_text.specs.Grammar.{Region}
 use Rattle.workload_text.specs.View.{script_lines, command_line}
-use Rattle.script_run.specs.Rooms.{fault_room, rooms}
+use Rattle.script_run.specs.InsideRooms.{fault_room, rooms}
 use Rattle.script_run.proofs.rooms.room_of_script.Given as goal
 
 abbrev pub invariant-loop-i : goal.invariant-loop-i

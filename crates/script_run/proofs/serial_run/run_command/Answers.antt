@@ -5,9 +5,9 @@ use Rattle.workload_text.specs.Accepted.{regions_of}
 use Rattle.page_model.specs.declared.entry.Entry.TheVariants.{Load}
 use Rattle.region_table.specs.Pieces.{pieces_of}
 use Rattle.script_run.specs.FitsSerial.{Spread, piece_key}
-use Rattle.script_run.specs.LineEntries.{loads}
-use Rattle.script_run.specs.Running.{MayRun, Ran}
-use Rattle.script_run.specs.Ranges.{IsRange, GoesOn, FaultsAt, GoesBy, BreaksOff}
+use Rattle.page_model.specs.Pieces.{loads}
+use Rattle.script_run.specs.InsideRunning.{MayRun, Ran}
+use Rattle.script_run.specs.InsideRanges.{IsRange, GoesOn, FaultsAt, GoesBy, BreaksOff}
 use Rattle.script_run.proofs.Tabled.{is_listed}
 use Rattle.script_run.proofs.RanOne.{range_is, writable_is, fault_known, ran_load, ran_load_fault, ran_store, ran_store_fault}
 use Rattle.script_run.proofs.serial_run.run_command.Goals as goal

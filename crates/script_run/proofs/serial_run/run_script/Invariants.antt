@@ -6,7 +6,7 @@ use Rattle.workload_text.specs.View.{lines_of, command_line}
 use Rattle.workload_text.specs.Accepted.{regions_of}
 use Rattle.workload_text.specs.declared.workload.Command.{Command}
 use Rattle.script_run.specs.FitsSerial.{Spread}
-use Rattle.script_run.specs.Running.{IsShaped, Ran}
+use Rattle.script_run.specs.InsideRunning.{IsShaped, Ran}
 use Rattle.script_run.proofs.serial_run.run_script.Given as goal
 
 abbrev pub invariant-loop-i : goal.invariant-loop-i

@@ -5,7 +5,7 @@ use Rattle.workload_text.specs.Accepted.{regions_of}
 use Rattle.serial_pager.specs.Pagers.{rows_of}
 use Rattle.script_run.specs.FitsSerial.{spread_of, EndSeen}
 use Rattle.script_run.specs.FitsJournals.{FitsJournals}
-use Rattle.script_run.specs.Running.{MayOpen, OpensOn, Ran}
+use Rattle.script_run.specs.InsideRunning.{MayOpen, OpensOn, Ran}
 use Rattle.script_run.specs.Tables.{table_of}
 use Rattle.script_run.proofs.SerialFits.{may_run, run_origins, fits_serial}
 use Rattle.script_run.proofs.Journaled.{fits_journals}
@@ -71,7 +71,7 @@ returns-clause-fits g c =
     e (ap (λ (b : _). b.items) c.into_text.ensures) c.is_faulted-faulted.ensures refl refl c.in-Ok.ensures.empty c.in-Ok.ensures.faulted c.in-Ok.ensures.loaded c.in-Ok.ensures.sum in
     let noted = c.put_journals.new.list.items in
     let journals = fits_journals g.J.Journal.has_noted set lines rows ends js c.requires.lanes c.requires.runnable.fit c.in-Ok.replies c.run_scripts.new.replies p q z opens ran w.same c.into_parts-lanes.ensures.lanes
-    c.args.table c.requires.table c.requires.built c.requires.empty c.write_dirty-failed.result w.entries c.service_knows.ensures.like
+    c.args.table c.requires.table c.requires.built c.requires.empty c.write_dirty-failed.result w.entries
     noted (c.put_journals.ensures ∙ c.into_parts-lanes.ensures.journals) in
     let by_replies = subst (λ rs. FitsJournals g.J.Journal.has_noted set c.args.table lines rows ends rs c.write_dirty-failed.result noted) (sym run.1) journals in
     (run.0, subst (λ f. FitsJournals g.J.Journal.has_noted set c.args.table lines rows ends run.0.replies f noted) (sym run.2) by_replies)

@@ -5,13 +5,14 @@ use Rattle.page_base.specs.Lanes.{Rose}
 use Rattle.histories.specs.Histories.{History}
 use Rattle.page_model.specs.declared.entry.Entry.{Entry}
 use Rattle.page_model.specs.Setups.{pages_of}
-use Rattle.region_table.specs.declared.pieces.Piece.{Piece}
+use Rattle.page_base.specs.declared.keys.Piece.{Piece}
 use Rattle.region_table.specs.Regions.{TableSeen, lengths_of}
 use Rattle.store_trait.specs.Memory.{page_of}
 use Rattle.serial_pager.specs.declared.fault.PageFault.{PageFault}
 use Rattle.serial_pager.specs.Pagers.{PagerSeen, has_page, stripe_at, held, owes, count_at, IsSame, CountsGrow, WentAll}
 use Rattle.script_run.specs.FitsSerial.{EndsAt, piece_key}
-use Rattle.script_run.specs.LineEntries.{AreBefore, Fails, MakesInOrder, accesses_by}
+use Rattle.script_run.specs.LineEntries.{Fails, MakesInOrder}
+use Rattle.page_model.specs.Pieces.{AreBefore, accesses_by}
 
 abbrev pub key_of : (region page : ℕ) → Key
 key_of region page = record { region = region; page = page }

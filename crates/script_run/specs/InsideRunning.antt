@@ -20,12 +20,12 @@ use Rattle.script_run.specs.Serial.{bytes_at}
 use Rattle.script_run.specs.Contents.{contents_of}
 use Rattle.script_run.specs.Fits.{FitLanes, AreInRange}
 use Rattle.script_run.specs.Tables.{table_of}
-use Rattle.script_run.specs.Rooms.{rooms}
+use Rattle.script_run.specs.InsideRooms.{rooms}
 use Rattle.script_run.specs.Replies.{Reply, replies_text, is_fault, bytes_shown}
 use Rattle.script_run.specs.FitsSerial.{Spread, spread_of, is_told, lane_at, IsStored, AllAnswer, left_by, counts_named, CountsFit}
 use Rattle.script_run.specs.FitsJournals.{setup_at}
 use Rattle.script_run.specs.LineEntries.{AllMake}
-use Rattle.script_run.specs.Ranges.{pages_at, HoldsRegion}
+use Rattle.script_run.specs.InsideRanges.{pages_at, HoldsRegion}
 use Rattle.script_run.specs.declared.replies.Replies.{Replies}
 use Rattle.script_run.specs.declared.settings.Settings.{Settings}
 

@@ -1,0 +1,55 @@
+-- Small facts on lists, on pages laid one after another, and on what is read of a lane.
+use Rattle.std.proofs.Common.{◌≡◌, ℕ, zero, suc, ◌+◌, ◌*◌, ◌-◌, ◌<◌, ◌≤◌, true, List, [], ◌∷◌, ◌++◌, length, take, drop, Option, Some, None, slice_get, slice_set, refl, sym, ap, ◌∙◌, arith, rules}
+use Rattle.std.proofs.lemmas.Bool.{cond-true}
+use Rattle.std.proofs.lemmas.List.{places, same_lists}
+use Rattle.std.proofs.lemmas.Nat.{mul-le}
+use Rattle.std.proofs.Math.Nat.{add-sub_cancel_left}
+use Rattle.page_base.specs.Lanes.{Origin, LaneSeen, has_page, told_at}
+use Rattle.page_model.specs.Core.{Core}
+use Rattle.page_model.specs.Readers.{IsHere}
+use Rattle.serial_pager.specs.Holdings.{count_of_place, count_of_region, count_at}
+use Rattle.store_trait.specs.Memory.{page_of, told_by}
+use Rattle.store_trait.specs.WholePages.{told_at-told_by}
+
+some_is : {A : Type 0} {x y : A} → Some x ≡ Some y → x ≡ y
+some_is e = cc
+
+-- lists with the same items at all places are one
+pub same_items : {A : Type 0} (xs ys : List A) → length xs ≡ length ys → ((i : ℕ) (x : A) → slice_get xs i ≡ Some x → slice_get ys i ≡ Some x) → xs ≡ ys
+same_items [] [] e same = refl
+same_items [] (y ∷ ys) e same = absurd (omega (arith, e))
+same_items (x ∷ xs) [] e same = absurd (omega (arith, e))
+same_items (x ∷ xs) (y ∷ ys) e same = ap (λ z. z ∷ xs) (sym (some_is (same 0 x refl))) ∙ ap (λ zs. y ∷ zs) (same_items xs ys (omega (arith, e)) (λ i z h. same (suc i) z h))
+
+-- what is written at a place, and at another
+pub slice_set_same : {A : Type 0} (xs : List A) (i : ℕ) (x v : A) → slice_get xs i ≡ Some x → slice_get (slice_set xs i v) i ≡ Some v
+slice_set_same [] i x v e = absurd cc
+slice_set_same (y ∷ ys) zero x v e = refl
+slice_set_same (y ∷ ys) (suc i) x v e = slice_set_same ys i x v e
+
+pub slice_set_other : {A : Type 0} (xs : List A) (i j : ℕ) (v : A) → (j ≡ i → ⊥) → slice_get (slice_set xs i v) j ≡ slice_get xs j
+slice_set_other [] i j v ne = refl
+slice_set_other (y ∷ ys) zero zero v ne = absurd (ne refl)
+slice_set_other (y ∷ ys) zero (suc j) v ne = refl
+slice_set_other (y ∷ ys) (suc i) zero v ne = refl
+slice_set_other (y ∷ ys) (suc i) (suc j) v ne = slice_set_other ys i j v (λ e. ne (ap suc e))
+
+-- two rows of n lie apart
+pub rows_apart : (i j n : ℕ) → i < j → i * n + n ≤ j * n
+rows_apart i j n h = omega (arith, mul-le (i + 1) n j n (omega arith) (omega arith))
+
+-- a page below the end of a list stays where more is appended
+pub page_of-append : (size row : ℕ) (xs ys : List ℕ) → row * size + size ≤ length xs → page_of size (xs ++ ys) row ≡ page_of size xs row
+page_of-append size row xs ys fits = rw (add-sub_cancel_left (row * size) size) (same_lists _ _ (search (rules, places)) (λ k d h. grind (arith, places)))
+
+-- what is appended is the page behind
+pub page_of-appended : (size row : ℕ) (xs ys : List ℕ) → length xs ≡ row * size → length ys ≡ size → page_of size (xs ++ ys) row ≡ ys
+page_of-appended size row xs ys e f = rw (add-sub_cancel_left (row * size) size) (same_lists _ _ (search (rules, places)) (λ k d h. grind (arith, places)))
+
+-- what a lane tells of a page that it has
+pub told_of_page : (o : Origin) (f : ℕ → List ℕ) (p : ℕ) → has_page o p ≡ true → told_at (told_by o f) p ≡ Some (f p)
+told_of_page o f p h = told_at-told_by o f p ∙ cond-true (has_page o p) (Some (f p)) None h
+
+-- the count of a lane that is at home
+pub count_here : (c : Core) (r : ℕ) (lane : LaneSeen) → IsHere c r lane → count_at c r ≡ lane.count
+count_here c r lane here = ap count_of_region here.is ∙ ap count_of_place here.home
