@@ -1,3 +1,4 @@
 pub mod Inputs
 pub mod Refused
 pub mod Outcomes
+pub mod Rightly

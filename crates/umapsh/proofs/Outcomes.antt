@@ -6,7 +6,8 @@ use Rattle.std.proofs.lemmas.Bool.{cases_lt}
 use Rattle.workload_text.specs.Line.{Line}
 use Rattle.script_run.specs.Streams.{AppendsFront}
 use Rattle.umapsh.specs.Status.{refused_words}
-use Rattle.umapsh.specs.Top.{Accepts, answer_of, Says, Causes, ReadAll, ReadStop, RunStop}
+use Rattle.umapsh.specs.Top.{Accepts, answer_of, Says, Causes}
+use Rattle.umapsh.specs.InsideTop.{ReadAll, ReadStop, RunStop}
 use Rattle.umapsh.specs.Inputs.{refusal_of}
 use Rattle.umapsh.proofs.Refused.{long_refused}
 use Rattle.umapsh.specs.declared.refusal.Refusal.{Refusal}

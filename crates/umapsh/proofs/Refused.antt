@@ -1,8 +1,8 @@
 -- What an input is refused for, from what was read of it.
-use Rattle.std.proofs.Common.{◌≡◌, ℕ, ◌<◌, true, false, List, [], length, map, Option, Some, None, Err, refl, sym, ap, ◌∙◌}
+use Rattle.std.proofs.Common.{◌≡◌, ℕ, ◌<◌, true, false, List, [], length, map, Option, Some, None, Result, Ok, Err, refl, sym, ap, ◌∙◌}
 use Rattle.std.proofs.lemmas.Bool.{lt-leb}
-use Rattle.workload_text.specs.Line.{Line}
-use Rattle.workload_text.specs.Grammar.{Spells, lines_in}
+use Rattle.workload_text.specs.Line.{Line, TextLine}
+use Rattle.workload_text.specs.Grammar.{IsText, Spells, lines_in}
 use Rattle.workload_text.specs.Refusals.{RefusedAt, refusal, read_text}
 use Rattle.workload_text.specs.Answers.{AreMapNumbers, IfRefused, map_numbers}
 use Rattle.workload_text.specs.Built.{is_built}
@@ -12,28 +12,33 @@ use Rattle.workload_text.specs.declared.workload.Workload.{Workload}
 use Rattle.workload_text.specs.declared.refusal.TextKind.TheVariants as kind
 use Rattle.workload_text.specs.declared.refusal.TextFault.{TextFault}
 use Rattle.workload_text.specs.declared.refusal.TextFault.TheVariants as text
-use Rattle.workload_text.proofs.Complete.{text_complete, one_reading}
-use Rattle.workload_text.proofs.Refused.{refused_at}
-use Rattle.region_table.specs.Regions.{RegionSeen}
-use Rattle.script_run.specs.Tables.{regions_seen}
+use Rattle.region_table.specs.Regions.{RegionSeen, TableSeen}
+use Rattle.script_run.specs.FitsLaws.{RegionsAreMaps}
+use Rattle.script_run.specs.Tables.{regions_seen, table_of}
 use Rattle.script_run.specs.RegionRules.{region_seen, region_refusal, IfRegionRefused}
 use Rattle.umapsh.specs.Inputs.{refusal_of, refused_behind, refused_text}
-use Rattle.umapsh.specs.Top.{RunStop, text_status, region_status}
+use Rattle.umapsh.specs.InsideTop.{RunStop, text_status, region_status}
 use Rattle.script_run.specs.declared.regions.RegionRefusal.{RegionRefusal}
 use Rattle.script_run.specs.declared.regions.TableFault.{TableFault}
 use Rattle.script_run.specs.declared.regions.TableFault.TheVariants as table
 use Rattle.umapsh.specs.declared.refusal.Refusal.TheVariants as why
-use Rattle.script_run.proofs.RegionRules.{seen_are, same_count}
+
+-- the laws of the crates below that these rest on
+pub record Laws : Type 0 where
+  pub read : (bytes : List ℕ) (texts : List TextLine) → IsText bytes texts → read_text bytes ≡ Ok texts
+  pub one_way : (bytes : List ℕ) (some other : List TextLine) → IsText bytes some → IsText bytes other → some ≡ other
+  pub refused : (bytes : List ℕ) (r : RefusedAt) → refusal bytes ≡ Some r → read_text bytes ≡ Err r
+  pub maps : RegionsAreMaps
 
 -- ---- the text is refused
 
-pub text_refused : (bytes : List ℕ) (r : RefusedAt) → refusal bytes ≡ Some r → refusal_of bytes ≡ Some (record { line = r.line; kind = why.Text r.kind })
+pub text_refused : Laws → (bytes : List ℕ) (r : RefusedAt) → refusal bytes ≡ Some r → refusal_of bytes ≡ Some (record { line = r.line; kind = why.Text r.kind })
 unfolding refusal_of
-text_refused bytes r h = ap refused_text (refused_at bytes r h)
+text_refused laws bytes r h = ap refused_text (laws.refused bytes r h)
 
-pub text_stops : (W : Type 0) (fault : TextFault) (bytes : List ℕ) → IfRefused {W = W} (Err fault) (λ n k. refusal bytes ≡ Some (record { line = n; kind = k })) → RunStop (text_status fault) bytes
-text_stops W (text.Refused n k) bytes h = text_refused bytes (record { line = n; kind = k }) h
-text_stops W text.OutOfMemory bytes h = tt
+pub text_stops : Laws → (W : Type 0) (fault : TextFault) (bytes : List ℕ) → IfRefused {W = W} (Err fault) (λ n k. refusal bytes ≡ Some (record { line = n; kind = k })) → RunStop (text_status fault) bytes
+text_stops laws W (text.Refused n k) bytes h = text_refused laws bytes (record { line = n; kind = k }) h
+text_stops laws W text.OutOfMemory bytes h = tt
 
 -- a long input is refused for its length, however long it is
 pub long_refused : (bytes : List ℕ) → 16777216 < length bytes → refusal_of bytes ≡ Some (record { line = 0; kind = why.Text kind.Long })
@@ -47,26 +52,34 @@ same_call z ms slice ns lines e f g =
     ∙ ap (λ (xs : List MapLine). region_refusal 4096 [] (map region_seen xs) lines) f
     ∙ ap (λ (xs : List ℕ). region_refusal 4096 [] (map region_seen ms) xs) g)
 
+-- the table of all `map` lines is that of the workload's lines
+pub table_is : RegionsAreMaps → (z page_size : ℕ) (slice : List MapLine) (w : Workload) (t : TableSeen) → t ≡ record { page_size = z; regions = map region_seen slice } → z ≡ page_size → slice ≡ w.maps.items → t ≡ table_of page_size (lines_of w)
+table_is maps z page_size slice w t made sized same =
+    made
+    ∙ ap (λ (n : ℕ). let y : TableSeen = record { page_size = n; regions = map region_seen slice } in y) sized
+    ∙ ap (λ (ms : List MapLine). let y : TableSeen = record { page_size = page_size; regions = map region_seen ms } in y) same
+    ∙ ap (λ (rs : List RegionSeen). let y : TableSeen = record { page_size = page_size; regions = rs } in y) (sym (maps.seen w))
+
 -- ---- the text is accepted
 
-module _ (bytes : List ℕ) (w : Workload) (numbers : List ℕ) (spelt : Spells bytes (lines_of w)) (numbered : AreMapNumbers bytes numbers) where
+module _ (laws : Laws) (bytes : List ℕ) (w : Workload) (numbers : List ℕ) (spelt : Spells bytes (lines_of w)) (numbered : AreMapNumbers bytes numbers) where
   same_texts : numbered.texts ≡ spelt.texts
-  same_texts = one_reading bytes numbered.texts spelt.texts numbered.text spelt.text
+  same_texts = laws.one_way bytes numbered.texts spelt.texts numbered.text spelt.text
 
   numbers_are : map_numbers 1 spelt.texts ≡ numbers
   numbers_are = ap (map_numbers 1) (sym same_texts) ∙ sym numbered.numbers_are
 
   regions_are : regions_seen (lines_in spelt.texts) ≡ map region_seen w.maps.items
-  regions_are = ap regions_seen spelt.lines_are ∙ seen_are w
+  regions_are = ap regions_seen spelt.lines_are ∙ laws.maps.seen w
 
   -- each region has its line
   pub as_many : length numbers ≡ length (map region_seen w.maps.items)
-  as_many = ap length (sym numbers_are) ∙ same_count 1 spelt.texts ∙ ap length regions_are
+  as_many = ap length (sym numbers_are) ∙ laws.maps.numbered 1 spelt.texts ∙ ap length regions_are
 
   pub refusal_is : refusal_of bytes ≡ refused_behind (region_refusal 4096 [] (map region_seen w.maps.items) numbers) (is_built (lines_of w))
   unfolding refusal_of
   refusal_is =
-      ap refused_text (text_complete bytes spelt.texts spelt.text)
+      ap refused_text (laws.read bytes spelt.texts spelt.text)
       ∙ ap (λ (rs : List RegionSeen). refused_behind (region_refusal 4096 [] rs (map_numbers 1 spelt.texts)) (is_built (lines_in spelt.texts))) regions_are
       ∙ ap (λ (ns : List ℕ). refused_behind (region_refusal 4096 [] (map region_seen w.maps.items) ns) (is_built (lines_in spelt.texts))) numbers_are
       ∙ ap (λ (ls : List Line). refused_behind (region_refusal 4096 [] (map region_seen w.maps.items) numbers) (is_built ls)) spelt.lines_are

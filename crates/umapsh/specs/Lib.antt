@@ -2,3 +2,4 @@ pub mod Status
 pub mod Words
 pub mod Inputs
 pub mod Top
+pub mod InsideTop

@@ -6,11 +6,8 @@ use Rattle.workload_text.specs.Line.{Line}
 use Rattle.workload_text.specs.Grammar.{Spells}
 use Rattle.script_run.specs.Serial.{zeros_of, serial_text}
 use Rattle.script_run.specs.Streams.{AppendsFront}
+use Rattle.workload_text.specs.FirstBad.{RefusedRightly}
 use Rattle.umapsh.specs.Inputs.{refusal_of}
-use Rattle.workload_text.specs.declared.refusal.TextFault.{TextFault}
-use Rattle.workload_text.specs.declared.refusal.TextFault.TheVariants as text
-use Rattle.script_run.specs.declared.regions.TableFault.{TableFault}
-use Rattle.script_run.specs.declared.regions.TableFault.TheVariants as table
 use Rattle.umapsh.specs.declared.refusal.Refusal.TheVariants as why
 use Rattle.umapsh.specs.declared.status.Status.{Status}
 use Rattle.umapsh.specs.declared.status.Status.TheVariants.{Done, Refused, Words, Memory, SinkFault, SourceFault}
@@ -37,6 +34,12 @@ Says (SinkFault faults) input left old new =
     IfSome input (λ b. (lines : List Line) × Accepts b lines × AppendsFront old new (answer_of lines))
 Says (SourceFault faults) input left old new = new ≡ old
 
+-- a refusal by the text is right by the grammar alone: it names the first line with which no accepted text begins, and the
+-- first kind that applies to it, or a text that is too long
+abbrev pub RefusesRightly : Status → (input : Option (List ℕ)) → Type 0
+RefusesRightly (Refused line (why.Text k)) input = IfSome input (λ b. RefusedRightly b line k)
+RefusesRightly status input = Unit {0}
+
 -- a fault of the source or the sink comes only where its count rose, and carries it
 abbrev pub Causes : Status → (source source' sink sink' : ℕ) → Type 0
 Causes (SourceFault faults) source source' sink sink' = Rose source source' × (faults ≡ source')
@@ -46,40 +49,6 @@ Causes (Refused line k) source source' sink sink' = Unit {0}
 Causes (Words fault) source source' sink sink' = Unit {0}
 Causes Memory source source' sink sink' = Unit {0}
 
--- the source gave these bytes: all of the input, or one more than a text may have
-pub record ReadAll (input left : Option (List ℕ)) (bytes : List ℕ) : Type 0 where
-  pub taken : Consumes input left bytes
-  pub few : length bytes ≤ 16777217
-  pub whole : length bytes ≤ 16777216 → IsAtEnd left
-
 -- the source gave some bytes, no more than one past what a text may have
 abbrev pub ReadsFew : (input left : Option (List ℕ)) → Type 0
 ReadsFew input left = (bytes : List ℕ) × Consumes input left bytes × (length bytes ≤ 16777217)
-
--- why reading stopped
-abbrev pub ReadStop : Status → (before now : ℕ) → Type 0
-ReadStop Memory before now = Unit {0}
-ReadStop (SourceFault faults) before now = Rose before now × (faults ≡ now)
-ReadStop Done before now = ⊥
-ReadStop (Refused line k) before now = ⊥
-ReadStop (Words fault) before now = ⊥
-ReadStop (SinkFault faults) before now = ⊥
-
--- the status of a fault of the text
-abbrev pub text_status : TextFault → Status
-text_status (text.Refused line k) = Refused line (why.Text k)
-text_status text.OutOfMemory = Memory
-
--- the status of a fault of the regions
-abbrev pub region_status : TableFault → Status
-region_status (table.Refused r) = Refused r.line (why.Region r.kind)
-region_status table.OutOfMemory = Memory
-
--- why running a text stopped
-abbrev pub RunStop : Status → List ℕ → Type 0
-RunStop Memory bytes = Unit {0}
-RunStop (Refused line k) bytes = refusal_of bytes ≡ Some (record { line = line; kind = k })
-RunStop Done bytes = ⊥
-RunStop (Words fault) bytes = ⊥
-RunStop (SinkFault faults) bytes = ⊥
-RunStop (SourceFault faults) bytes = ⊥

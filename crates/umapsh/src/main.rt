@@ -11,36 +11,18 @@ mod tests;
 mod top;
 mod words;
 
-use crate::status::Status;
 use crate::top::top_serial;
-use crate::words::{Call, WordsFault};
-use page_base::Texts;
+use crate::words::read_call;
 use script_run::{StdSink, StdSource};
-use std::env;
-use std::io::{self, Write};
+use std::io::Write;
 use std::process::ExitCode;
-
-/// The command's words after the program's name.
-fn call(rt: &HostRuntime) -> io::Result<Call> {
-    let mut words = Texts::new(rt.alloc());
-    for word in env::args(rt)?.skip(1) {
-        if words.reserve(1).is_err() {
-            break;
-        }
-        words.put(word);
-    }
-    Ok(Call {
-        words,
-        vars: Texts::new(rt.alloc()),
-    })
-}
 
 fn main(rt: HostRuntime) -> ExitCode {
     let mut source = StdSource::new(rt.stdin());
     let mut sink = StdSink::new(rt.stdout());
-    let status = match call(&rt) {
+    let status = match read_call(&rt) {
         Ok(call) => top_serial(rt.alloc(), call, &mut source, (), &mut sink).0,
-        Err(_) => Status::Words(WordsFault::Words),
+        Err(status) => status,
     };
     let mut text = [0u8; 128];
     let len = status.text(&mut text);

@@ -2,9 +2,11 @@
 use crate::refusal::Refusal;
 use crate::status::Status;
 use crate::top::top_serial;
-use crate::words::{Call, WordsFault};
+use crate::words::{Call, WordsFault, read_call};
 use page_base::{Bytes, List, Texts};
 use script_run::{FailingWrite, MemSink, MemSource, RegionKind};
+use std::env::{Env, FillError};
+use std::process::Abort;
 use std::test::Fail;
 use workload_text::TextKind;
 
@@ -72,6 +74,71 @@ fn other_words_are_refused(rt: HostRuntime) -> Result<(), Fail> {
         assert!(rt; written.is_empty());
     }
     Ok(())
+}
+
+/// A system that was called with these words, the program's name before them, and has no variables.
+#[derive(Drop)]
+struct Told<'a> {
+    words: &'a [&'a [u8]],
+}
+
+impl Env for Told<'_> {
+    fn arg(&self, i: usize, buf: &mut [u8]) -> Result<usize, FillError> {
+        if i >= self.words.len() {
+            return Err(FillError::NotPresent);
+        }
+        let word = self.words[i];
+        if word.len() > buf.len() {
+            return Err(FillError::TooLong);
+        }
+        buf[..word.len()].copy_from_slice(word);
+        Ok(word.len())
+    }
+
+    fn var(&self, _name: &str, _buf: &mut [u8]) -> Result<usize, FillError> {
+        Err(FillError::NotPresent)
+    }
+
+    fn var_at(&self, _i: usize, _buf: &mut [u8]) -> Result<usize, FillError> {
+        Err(FillError::NotPresent)
+    }
+}
+
+/// The call of a system that tells these words has those words.
+fn tells(rt: &(impl Abort + AllocGlobal), words: &[&[u8]], wanted: &[&str]) {
+    match read_call(&(Told { words }, rt.alloc())) {
+        Ok(call) => {
+            assert_eq!(rt; call.words.len(), wanted.len());
+            for i in 0..wanted.len().min(call.words.len()) {
+                assert_eq!(rt; call.words.get(i).as_str(), wanted[i]);
+            }
+        }
+        Err(status) => panic!(rt; "{status:?}"),
+    }
+}
+
+#[test]
+fn a_call_has_all_words_behind_the_programs_name(rt: HostRuntime) {
+    tells(&rt, &[], &[]);
+    tells(&rt, &[b"umapsh".as_slice()], &[]);
+    tells(
+        &rt,
+        &[b"umapsh".as_slice(), b"serial".as_slice(), b"".as_slice()],
+        &["serial", ""],
+    );
+}
+
+#[test]
+fn a_word_that_is_no_text_is_refused(rt: HostRuntime) {
+    let words = [
+        b"umapsh".as_slice(),
+        b"serial".as_slice(),
+        b"\xff".as_slice(),
+    ];
+    match read_call(&(Told { words: &words }, rt.alloc())) {
+        Ok(_) => panic!(rt; "taken"),
+        Err(status) => assert_eq!(rt; status, Status::Words(WordsFault::Words)),
+    }
 }
 
 #[test]

@@ -9,7 +9,8 @@ ghost use Rattle.script_run.specs.Fits.{has_whole_pages};
 ghost use Rattle.script_run.specs.Tables.{table_of};
 ghost use Rattle.umapsh.specs.Status.{refused_words};
 ghost use Rattle.umapsh.specs.Words.{words_fault};
-ghost use Rattle.umapsh.specs.Top.{Accepts, answer_of, text_status, region_status, Says, Causes, ReadAll, ReadsFew, ReadStop, RunStop};
+ghost use Rattle.umapsh.specs.Top.{Accepts, answer_of, Says, RefusesRightly, Causes, ReadsFew};
+ghost use Rattle.umapsh.specs.InsideTop.{text_status, region_status, ReadAll, ReadStop, RunStop};
 
 use crate::refusal::Refusal;
 use crate::status::Status;
@@ -17,8 +18,13 @@ use crate::words::{self, Call};
 use page_base::{Bytes, Layout, List};
 use page_model::NoJournal;
 use region_table::RegionTable;
+use script_run::laws::{memory_runs_are_serial, regions_are_maps};
 use script_run::{Settings, Sink, Source, TableFault, memory_lanes, serial, table_of_maps};
 use std::alloc::{AllocError, Global};
+use workload_text::laws::{
+    refusals_are_right, text_is_read_as_spelt, text_is_read_one_way,
+    text_is_refused_at_its_first_bad_line,
+};
 use workload_text::{TextFault, Workload, is_built, parse};
 
 /// One byte more than a text may have.
@@ -116,6 +122,10 @@ fn accept(alloc: Global, layout: Layout, bytes: &[u8]) -> Result<Accepted, Statu
     ensures whole { IfOk result (λ a. has_whole_pages layout.page_size (regions_of (lines_of a.workload)) ≡ true) }
     ensures stop { IfErr result (λ e. RunStop e bytes.now) }
 {
+    text_is_read_as_spelt();
+    text_is_read_one_way();
+    text_is_refused_at_its_first_bad_line();
+    regions_are_maps();
     let parsed = match parse(alloc, bytes) {
         Ok(parsed) => parsed,
         Err(fault) => return Err(text_status(fault)),
@@ -141,6 +151,7 @@ fn run(alloc: Global, bytes: &[u8]) -> Result<Bytes, Status>
     ensures ok { IfOk result (λ text. (lines : _) × Accepts bytes.now lines × (text.items ≡ answer_of lines)) }
     ensures stop { IfErr result (λ e. RunStop e bytes.now) }
 {
+    memory_runs_are_serial();
     let settings = Settings::defaults();
     let accepted = match accept(alloc, settings.layout, bytes) {
         Ok(accepted) => accepted,
@@ -195,10 +206,13 @@ pub fn top_serial<S: Source, F, K: Sink>(
     sink: &mut K,
 ) -> (Status, F)
     ensures says { Says result.0 (S.left source.old) (S.left source.new) (K.written sink.old) (K.written sink.new) }
+    ensures right { RefusesRightly result.0 (S.left source.old) }
     ensures causes { Causes result.0 (S.fault_count source.old) (S.fault_count source.new) (K.fault_count sink.old) (K.fault_count sink.new) }
     ensures words { refused_words result.0 ≡ words_fault call.words.items }
     ensures few { ReadsFew (S.left source.old) (S.left source.new) }
     ensures folder { result.1 ≡ folder }
 {
+    text_is_refused_at_its_first_bad_line();
+    refusals_are_right();
     (answer(alloc, &call, source, sink), folder)
 }

@@ -1,6 +1,5 @@
 use Rattle.std.proofs.Common.{ap, ◌∙◌, arith}
 use Rattle.workload_text.specs.View.{lines_of}
-use Rattle.script_run.proofs.InMemory.{memory_text}
 use Rattle.script_run.specs.Serial.{serial_text}
 use Rattle.umapsh.proofs.top.run.Goals as goal
 
@@ -15,6 +14,6 @@ returns-in-Ok-serial-clause-ok c =
     let end = c.in-Ok-serial.end in (
       lines,
       c.in-Ok.ensures.accepted,
-      memory_text c.defaults-settings.result.layout lines c.in-Ok-memory_lanes.lanes.stripes.items end.lanes.stripes.items (record { text = end.text.items; faulted = end.faulted; loaded = end.loaded; sum = end.sum }) c.in-Ok-memory_lanes.ensures.fit c.in-Ok.ensures.runnable.fit c.in-Ok-serial.ensures.fits.0
+      c.memory_runs_are_serial.ensures c.defaults-settings.result.layout lines c.in-Ok-memory_lanes.lanes.stripes.items end.lanes.stripes.items (record { text = end.text.items; faulted = end.faulted; loaded = end.loaded; sum = end.sum }) c.in-Ok-memory_lanes.ensures.fit c.in-Ok.ensures.runnable.fit c.in-Ok-serial.ensures.fits.0
           ∙ ap (λ b. serial_text b lines) c.in-Ok-memory_lanes.ensures.zeros,
     )
