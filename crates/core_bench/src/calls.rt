@@ -86,7 +86,9 @@ pub fn read_in<S: Store>(stripe: &mut Stripe<S>, scratch: &mut [u8])
     let mut trip = stripe.start_read();
     let place = u64::from(trip.key().page) * scratch.len() as u64;
     match trip.lane().read_from_store(scratch, place) {
-        Ok(()) => stripe.filled(trip, scratch),
+        Ok(()) => {
+            stripe.filled(trip, scratch);
+        }
         Err(_) => stripe.read_failed(trip),
     }
 }
