@@ -1,2 +1,5 @@
+mod KeyOrders
+mod Leasts
+mod Places
 mod SameKeys
 mod Sets

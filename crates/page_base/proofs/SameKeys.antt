@@ -1,5 +1,5 @@
 -- Keys that are the same.
-use Rattle.std.proofs.Common.{false, inl, inr, refl, sym, true, ℕ, ◌==◌, ◌∙◌, ◌≡◌}
+use Rattle.std.proofs.Common.{false, inl, inr, refl, sym, true, ◌==◌, ◌∙◌, ◌≡◌}
 use Rattle.std.proofs.lemmas.Bool.{and_from, and_parts, cases_Bool, eq-eqb, eqb-true, false_from_ne_true}
 use Rattle.page_base.specs.Pages.{same}
 use Rattle.page_base.specs.declared.keys.Key.{Key}

@@ -1,5 +1,5 @@
 -- Lists with one item written over.
-use Rattle.std.proofs.Common.{List, Option, Some, [], ap, length, refl, slice_get, slice_set, suc, zero, ℕ, ◌∷◌, ◌≡◌}
+use Rattle.std.proofs.Common.{List, Some, [], ap, length, refl, slice_get, slice_set, suc, zero, ℕ, ◌∷◌, ◌≡◌}
 
 pub slice_set_same : {A : Type 0} (xs : List A) (i : ℕ) (x v : A) → slice_get xs i ≡ Some x → slice_get (slice_set xs i v) i ≡ Some v
 slice_set_same [] i x v e = absurd cc

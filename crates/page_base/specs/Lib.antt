@@ -1,4 +1,5 @@
 pub mod Backings
+pub mod KeyOrder
 pub mod Lanes
 pub mod Laws
 pub mod Layouts

@@ -2,19 +2,13 @@
 ghost use Rattle.std.specs.Prelude.{◌≡◌, ◌<◌, ◌≤◌, ◌*◌, true, IfOk};
 ghost use Rattle.page_base.specs.Pages.{stripe_of, quota_of};
 ghost use Rattle.page_base.specs.Layouts.{is_page_size, layout_fault, IsRefusedBy};
+ghost use Rattle.page_base.specs.declared.limits.TheConstants.{LEAST_PAGE_SIZE, MOST_PAGE_SIZE, MOST_FRAMES, MOST_BUFFER_BYTES, MOST_STRIPES};
 
 use crate::faults::LayoutFault;
 use crate::keys::Key;
-
-const LEAST_PAGE_SIZE: u32 = 64;
-
-const MOST_PAGE_SIZE: u32 = 1_048_576;
-
-const MOST_FRAMES: u32 = 1_048_576;
-
-const MOST_BYTES: u64 = 1_073_741_824;
-
-const MOST_STRIPES: u32 = 64;
+use crate::limits::{
+    LEAST_PAGE_SIZE, MOST_BUFFER_BYTES, MOST_FRAMES, MOST_PAGE_SIZE, MOST_STRIPES,
+};
 
 /// A page size in bytes, the stripes, and the frames that they share.
 #[derive(Clone, Copy, Debug, PartialEq, Eq)]
@@ -23,13 +17,13 @@ pub struct Layout {
     stripes: u32,
     frames: u32,
     pub ghost sized: { is_page_size page_size ≡ true },
-    pub ghost large_pages: { 64 ≤ page_size },
-    pub ghost small_pages: { page_size ≤ 1048576 },
+    pub ghost large_pages: { LEAST_PAGE_SIZE ≤ page_size },
+    pub ghost small_pages: { page_size ≤ MOST_PAGE_SIZE },
     pub ghost some_stripe: { 1 ≤ stripes },
-    pub ghost few_stripes: { stripes ≤ 64 },
+    pub ghost few_stripes: { stripes ≤ MOST_STRIPES },
     pub ghost shared: { stripes ≤ frames },
-    pub ghost few_frames: { frames ≤ 1048576 },
-    pub ghost few_bytes: { frames * page_size ≤ 1073741824 },
+    pub ghost few_frames: { frames ≤ MOST_FRAMES },
+    pub ghost few_bytes: { frames * page_size ≤ MOST_BUFFER_BYTES },
 }
 
 impl Layout {
@@ -48,7 +42,7 @@ impl Layout {
             return Err(LayoutFault::NoFrames);
         }
         let bytes = u64::from(frames) * u64::from(page_size);
-        if frames > MOST_FRAMES || bytes > MOST_BYTES {
+        if frames > MOST_FRAMES || bytes > MOST_BUFFER_BYTES {
             return Err(LayoutFault::TooManyFrames);
         }
         if stripes == 0 {

@@ -3,7 +3,8 @@
 //!
 //! It stands on std alone. It promises exact numbers: which stripe a page belongs to, how many frames a stripe has, at
 //! which marks it evicts, and which page sizes, stripes and frames go together. A list promises that what was reserved
-//! goes in later without taking memory. `specs/Lanes.antt` has the data by which all crates speak of a lane. The laws of
+//! goes in later without taking memory. The numbers that limit paging are constants of `limits`, which code, clauses and
+//! definitions of all crates cite. `specs/Lanes.antt` has the data by which all crates speak of a lane. The laws of
 //! keys and of lists that several crates need stand in `laws`.
 #![tactic(auto)]
 
@@ -12,6 +13,7 @@ mod faults;
 mod keys;
 pub mod laws;
 mod layout;
+mod limits;
 mod list;
 #[cfg(test)]
 mod tests;
@@ -22,6 +24,10 @@ pub use bytes::Bytes;
 pub use faults::{LayoutFault, OutOfMemory};
 pub use keys::{Key, Marks, Piece, Raise, RegionShape, Why};
 pub use layout::Layout;
+pub use limits::{
+    LEAST_PAGE_SIZE, MOST_BUFFER_BYTES, MOST_FAULTS, MOST_FRAMES, MOST_PAGE_SIZE, MOST_PAGES,
+    MOST_REGIONS, MOST_STRIPES,
+};
 pub use list::List;
 pub use texts::Texts;
 pub use watermarks::marks;
