@@ -1,11 +1,12 @@
 -- The readers of a core answer what the history says.
 use Rattle.std.proofs.Common.{Bool, List, None, Option, Some, [], ap, arith, cond, false, filter, find, inl, inr, is_none, is_some, length, map, nat_le, nat_lt, not, option_map, refl, subst, sym, true, ℕ, ◌&&◌, ◌+◌, ◌-◌, ◌<◌, ◌==◌, ◌||◌, ◌∙◌, ◌∷◌, ◌≡◌}
-use Rattle.std.proofs.lemmas.Bool.{and_left}
+use Rattle.std.proofs.lemmas.Bool.{and_left, or_left, or_right}
 use Rattle.std.proofs.lemmas.List.{length-map}
 use Rattle.std.proofs.lemmas.Option.{slice_get_cases}
 use Rattle.std.specs.Bool.{OnTrue}
 use Rattle.std.specs.List.{AllByRecursion, list_any, range_with_len}
 use Rattle.histories.specs.Histories.{History}
+use Rattle.page_base.specs.KeyOrder.{is_past, least}
 use Rattle.page_base.specs.Pages.{same}
 use Rattle.page_base.specs.declared.keys.Key.{Key}
 use Rattle.page_base.specs.declared.keys.Raise.{Raise}
@@ -13,7 +14,7 @@ use Rattle.page_model.specs.declared.entry.Entry.{Entry}
 use Rattle.page_model.specs.Bits.{is_dirty, is_protected}
 use Rattle.page_model.specs.Closings.{is_clear, is_closing, is_quiet, is_unmapped}
 use Rattle.page_model.specs.Core.{Core, Home, LanePlace, Reading, RegionSeen, Resident, Writing, closes, dirties, fault_at, is_full, is_guarded, is_home_place, is_present, is_read_place, page_at, pick_of, place_passes, protects, region_at, unmaps}
-use Rattle.page_model.specs.Evictions.{can_leave, has_pressure, is_evicting, victim}
+use Rattle.page_model.specs.Evictions.{can_leave, has_pressure, is_evicting, next_dirty, pick}
 use Rattle.page_model.specs.Faults.{is_pending, is_protected_why, is_waiting, pending}
 use Rattle.page_model.specs.InFlight.{in_flight, is_a_read, is_home, is_read_of, is_reading, is_write_of, is_writing}
 use Rattle.page_model.specs.Memory.{flat}
@@ -24,10 +25,10 @@ use Rattle.page_model.specs.Setups.{Setup, has_page, is_told, quota, regions}
 use Rattle.page_model.specs.Stands.{PageStands, PlaceStands, StandsFor}
 use Rattle.page_model.specs.StoreFaults.{read_fault}
 use Rattle.page_model.proofs.Counting.{count_zip}
-use Rattle.page_model.proofs.Keys.{same-true}
+use Rattle.page_model.proofs.Keys.{same-true, same_self}
 use Rattle.page_model.proofs.Known.{pending_pages, resident_pages}
 use Rattle.page_model.proofs.Lists.{find_passes}
-use Rattle.page_model.proofs.Members.{all_both, all_found, all_unmap, all_weaker, any_map, any_same, find_same, some_found}
+use Rattle.page_model.proofs.Members.{all_both, all_found, all_unmap, all_weaker, any_map, any_same, filter_same, find_same, some_found}
 use Rattle.page_model.proofs.Prefixes.{page_region}
 use Rattle.page_model.proofs.Quota.{reads_in}
 use Rattle.page_model.specs.Core as core
@@ -201,11 +202,24 @@ leave_is h c r st page p =
     ∙ (ap (λ b. not (is_writing h r.key) && (not b || core.is_home c r.key.region)) p.1
     ∙ ap (λ b. not (is_writing h r.key) && (not (is_dirty h r.key) || b)) (home_is h c r.key.region st lt))
 
-pub pick_is : (h : History Entry) (c : Core) → StandsFor h c → core.pick c ≡ option_map (picked h) (victim h)
+pub pick_is : (h : History Entry) (c : Core) → StandsFor h c → core.pick c ≡ option_map (picked h) (pick h)
 pick_is h c st =
     picks_are c.setup h (core.can_leave c) (can_leave h) c.pages st.pages
     (all_both (λ (r : Resident). has_page c.setup r.key ≡ true) (PageStands c.setup h) (λ (r : Resident). core.can_leave c r ≡ can_leave h r.key) c.pages (λ r page p. leave_is h c r st page p) (held_pages h c st) st.pages)
     ∙ ap (λ (ks : List Key). option_map (picked h) (find (can_leave h) ks)) st.order
+
+-- ---- the next dirty page
+
+all_among : (all ks : List Key) → ((k : Key) → is_in k ks ≡ true → is_in k all ≡ true) → AllByRecursion (λ (k : Key). is_in k all ≡ true) ks
+all_among all [] among = tt
+all_among all (k ∷ ks) among = (among k (or_left (same k k) (is_in k ks) (same_self k)), all_among all ks (λ j e. among j (or_right (same k j) (is_in j ks) e)))
+
+pub next_dirty_is : (h : History Entry) (c : Core) (after : Option Key) → StandsFor h c → core.next_dirty c after ≡ next_dirty h after
+next_dirty_is h c after st =
+    let P : Key → Bool = λ k. core.is_dirty c k && is_past after k in
+    let Q : Key → Bool = λ k. is_dirty h k && is_past after k in
+    let all = all_weaker (λ (k : Key). is_resident h k ≡ true) (λ k. P k ≡ Q k) (residents h) (λ k there. ap (λ b. b && is_past after k) (dirty_is h c k st ∙ ap (λ b. b && is_dirty h k) there)) (all_among (residents h) (residents h) (λ k e. e)) in
+    ap least (ap (filter P) st.order ∙ filter_same P Q (residents h) all)
 
 pub oldest_is : (h : History Entry) (c : Core) (r : ℕ) → StandsFor h c → core.oldest_of c r ≡ option_map (picked h) (oldest_of h r)
 oldest_is h c r st =
@@ -233,5 +247,5 @@ readers_agree = record {
         hint_answer = hint_is h c k st lt;
       };
   regions = λ h c r st lt. record { home = home_is h c r st lt; closing = closing_is h c r st lt; unmapped = unmapped_is h c r st lt; quiet = quiet_is h c r st lt; oldest_of = oldest_is h c r st };
-  stripe = λ h c st. record { resident = held_length h c st; free_frames = free_is h c st; pressure = pressure_is h c st; next = next_is h c st; pick = pick_is h c st };
+  stripe = λ h c st. record { resident = held_length h c st; free_frames = free_is h c st; pressure = pressure_is h c st; next = next_is h c st; pick = pick_is h c st; next_dirty = λ after. next_dirty_is h c after st };
 }

@@ -31,6 +31,7 @@ pub mod StripePages
 pub mod Dirty
 pub mod Emptied
 pub mod Counted
+pub mod NextDirty
 pub mod Picks
 pub mod Ahead
 pub mod Waits

@@ -36,6 +36,10 @@ module _ {A : Type 0} where
   find_same p q [] a = refl
   find_same p q (x ∷ xs) a = rw (a.0, find_same p q xs a.1) refl
 
+  pub filter_same : (p q : A → Bool) (xs : List A) → AllByRecursion (λ x. p x ≡ q x) xs → filter p xs ≡ filter q xs
+  filter_same p q [] a = refl
+  filter_same p q (x ∷ xs) a = rw (a.0, filter_same p q xs a.1) refl
+
   pub any_same : (p q : A → Bool) (xs : List A) → AllByRecursion (λ x. p x ≡ q x) xs → list_any p xs ≡ list_any q xs
   any_same p q [] a = refl
   any_same p q (x ∷ xs) a = rw (a.0, any_same p q xs a.1) refl

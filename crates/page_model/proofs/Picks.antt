@@ -9,7 +9,7 @@ use Rattle.page_model.specs.declared.seen.Pick.{Pick}
 use Rattle.page_model.specs.Bits.{is_dirty}
 use Rattle.page_model.specs.Core as core
 use Rattle.page_model.specs.Core.{Core}
-use Rattle.page_model.specs.Evictions.{can_leave, victim}
+use Rattle.page_model.specs.Evictions.{can_leave, pick}
 use Rattle.page_model.specs.InFlight.{is_home, is_writing}
 use Rattle.page_model.specs.Readers.{IsHeldOf, MayLeave, PagesShow, PicksKnow, picked}
 use Rattle.page_model.specs.Residents.{is_resident, oldest_of, residents}
@@ -40,8 +40,8 @@ found_known h c test k st is =
     let present : core.is_present c k ≡ true = present_is h c k st ∙ there in
     record { page = present_page h c k st present; present = present; dirty = dirty_is h c k st ∙ ap (λ b. b && is_dirty h k) there }
 
-victim_known : (h : History Entry) (c : Core) (k : Key) → StandsFor h c → victim h ≡ Some k → MayLeave c (picked h k)
-victim_known h c k st is =
+pick_known : (h : History Entry) (c : Core) (k : Key) → StandsFor h c → pick h ≡ Some k → MayLeave c (picked h k)
+pick_known h c k st is =
     let may : can_leave h k ≡ true = find_passes (can_leave h) (residents h) k is in
     let parts = and_parts (not (is_writing h k)) (not (is_dirty h k) || is_home h k.region) may in
     let known = found_known h c (can_leave h) k st is in
@@ -66,13 +66,13 @@ oldest_known h c r k st is =
 
 pub picks_know : PicksKnow
 picks_know = record {
-  picked = λ h c p st is. go h c p st (victim h) refl (sym (pick_is h c st) ∙ is);
+  picked = λ h c p st is. go h c p st (pick h) refl (sym (pick_is h c st) ∙ is);
   oldest = λ h c r p st is. at h c r p st (oldest_of h r) refl (sym (oldest_is h c r st) ∙ is);
 }
   where
-    go : (h : History Entry) (c : Core) (p : Pick) → StandsFor h c → (o : Option Key) → victim h ≡ o → option_map (picked h) o ≡ Some p → MayLeave c p
+    go : (h : History Entry) (c : Core) (p : Pick) → StandsFor h c → (o : Option Key) → pick h ≡ o → option_map (picked h) o ≡ Some p → MayLeave c p
     go h c p st None v e = absurd cc
-    go h c p st (Some k) v e = let same_pick : picked h k ≡ p = cc in subst (λ (x : Pick). MayLeave c x) same_pick (victim_known h c k st v)
+    go h c p st (Some k) v e = let same_pick : picked h k ≡ p = cc in subst (λ (x : Pick). MayLeave c x) same_pick (pick_known h c k st v)
 
     at : (h : History Entry) (c : Core) (r : ℕ) (p : Pick) → StandsFor h c → (o : Option Key) → oldest_of h r ≡ o → option_map (picked h) o ≡ Some p → IsHeldOf c r p
     at h c r p st None v e = absurd cc

@@ -13,7 +13,7 @@ use Rattle.page_model.specs.declared.entry.Entry.TheVariants.{Dropped, Filled, H
 use Rattle.page_model.specs.declared.seen.Next.{Next}
 use Rattle.page_model.specs.Bits.{is_dirty, is_protected}
 use Rattle.page_model.specs.Closings.{is_closing}
-use Rattle.page_model.specs.Evictions.{can_leave, has_pressure, is_evicting, victim}
+use Rattle.page_model.specs.Evictions.{can_leave, has_pressure, is_evicting, pick}
 use Rattle.page_model.specs.Faults.{is_protected_why, is_write, last_why, pending, served}
 use Rattle.page_model.specs.InFlight.{InFlight, in_flight, is_a_read, is_home, is_reading, is_write_of, is_writing}
 use Rattle.page_model.specs.Laws.{GoesAhead, WaitingIsProtected, asks_open}
@@ -103,7 +103,7 @@ wants_frame s h p l safe home e = go (is_protected_why p.why) refl e
         let no_frame : nat_lt 0 (free_frames s h) ≡ false = false_from_ne_true (nat_lt 0 (free_frames s h)) (λ t. let both : (nat_lt 0 (free_frames s h) && is_home h p.key.region) ≡ true = and_from (nat_lt 0 (free_frames s h)) (is_home h p.key.region) t home in cc) in
         (and_from (not (is_protected_why p.why)) (is_home h p.key.region) (ap not is) home, omega (arith, ltb-false 0 (free_frames s h) no_frame))
 
--- with every lane home and a resident page there is a victim
+-- with every lane home and a resident page there is a pick
 pick_there : (h : History Entry) (ks : List Key) → ((r : ℕ) → is_home h r ≡ true) → 0 < length ks → (k : Key) × (find (can_leave h) ks ≡ Some k)
 pick_there h [] home lt = absurd (omega arith)
 pick_there h (k ∷ ks) home lt = (k, first_found (can_leave h) k ks (and_from (not (is_writing h k)) (not (is_dirty h k) || is_home h k.region) (ap not (none_writes (in_flight h k.region) k (home k.region))) (or_right (not (is_dirty h k)) (is_home h k.region) (home k.region))))
@@ -118,7 +118,7 @@ served_next true j n o e = let f : false ≡ is_other n = ap is_other e in cc
 served_next false j n o e = let f : false ≡ is_other n = ap is_other e in cc
 
 goes_on : (s : Setup) (h : History Entry) (ps : List Raise) → Fits s → IsLegal s h → ((r : ℕ) → is_home h r ≡ true) → pending h ≡ ps → 0 < length ps → (a b : Option Raise) → find (is_stale h) ps ≡ a → find (is_servable s h) ps ≡ b
-    → (chosen a b (list_any (waits_for_room h) ps) ≡ serve.Nothing → ⊥) × (chosen a b (list_any (waits_for_room h) ps) ≡ serve.Room → (has_pressure s h ≡ true) × ((k : Key) × (victim h ≡ Some k)))
+    → (chosen a b (list_any (waits_for_room h) ps) ≡ serve.Nothing → ⊥) × (chosen a b (list_any (waits_for_room h) ps) ≡ serve.Room → (has_pressure s h ≡ true) × ((k : Key) × (pick h ≡ Some k)))
 goes_on s h [] fits l home is lt a b ea eb = absurd (omega arith)
 goes_on s h (p ∷ ps) fits l home is lt (Some q) b ea eb = (λ e. absurd cc, λ e. absurd cc)
 goes_on s h (p ∷ ps) fits l home is lt None (Some q) ea eb = (λ e. served_next (is_protected_why q.why) q.key serve.Nothing refl e, λ e. absurd (served_next (is_protected_why q.why) q.key serve.Room refl e))

@@ -14,9 +14,9 @@ use Rattle.page_model.specs.declared.seen.Pick.{Pick}
 use Rattle.page_model.specs.Bits.{is_dirty, is_protected, is_some_and, opened_at, written_since}
 use Rattle.page_model.specs.Core.{Core, Resident, is_present, page_at}
 use Rattle.page_model.specs.Events.{CanEvictFor, EvictStands, IsPicked, OpenPageStands, SaveStands}
-use Rattle.page_model.specs.Evictions.{victim}
+use Rattle.page_model.specs.Evictions.{pick}
 use Rattle.page_model.specs.Faults.{served}
-use Rattle.page_model.specs.Legal.{IsLegal, IsVictim, MayEvictFor}
+use Rattle.page_model.specs.Legal.{IsLegal, IsPick, MayEvictFor}
 use Rattle.page_model.specs.Memory.{flat}
 use Rattle.page_model.specs.Readers.{picked}
 use Rattle.page_model.specs.Residents.{is_resident, residents, without}
@@ -133,18 +133,18 @@ open_page_stands h o c k st e =
 
 -- ---- an eviction
 
-victim_by : (h : History Entry) (o : Option Key) (k : Key) → option_map (λ (p : Pick). p.key) (option_map (picked h) o) ≡ Some k → o ≡ Some k
-victim_by h None k e = absurd cc
-victim_by h (Some j) k e = e
+pick_by : (h : History Entry) (o : Option Key) (k : Key) → option_map (λ (p : Pick). p.key) (option_map (picked h) o) ≡ Some k → o ≡ Some k
+pick_by h None k e = absurd cc
+pick_by h (Some j) k e = e
 
-pub is_victim : (h : History Entry) (c : Core) (k : Key) → StandsFor h c → IsPicked c k → IsVictim c.setup h k
-is_victim h c k st p = record {
+pub is_pick : (h : History Entry) (c : Core) (k : Key) → StandsFor h c → IsPicked c k → IsPick c.setup h k
+is_pick h c k st p = record {
   pressure = sym (pressure_is h c st) ∙ p.pressure;
-  victim = victim_by h (victim h) k (sym (ap (option_map (λ (x : Pick). x.key)) (pick_is h c st)) ∙ p.picked);
+  pick = pick_by h (pick h) k (sym (ap (option_map (λ (x : Pick). x.key)) (pick_is h c st)) ∙ p.picked);
 }
 
 evict_for : (h : History Entry) (c : Core) (k : Key) (why : Cause) → StandsFor h c → k.region < regions c.setup → CanEvictFor c k why → MayEvictFor c.setup h k why
-evict_for h c k Pressure st lt f = is_victim h c k st f
+evict_for h c k Pressure st lt f = is_pick h c k st f
 evict_for h c k Unmap st lt f = sym (closing_is h c k.region st lt) ∙ f
 evict_for h c k Flush st lt f = f
 

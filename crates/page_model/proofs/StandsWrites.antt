@@ -33,13 +33,13 @@ use Rattle.page_model.proofs.Known.{same_sym}
 use Rattle.page_model.proofs.Members.{all_map}
 use Rattle.page_model.proofs.Prefixes.{page_region}
 use Rattle.page_model.proofs.Since.{AsBefore, as_before, flight_page, opened_below, protected_since}
-use Rattle.page_model.proofs.StandsPages.{is_victim, present_page}
+use Rattle.page_model.proofs.StandsPages.{is_pick, present_page}
 use Rattle.page_model.proofs.StandsReads.{counts_rise, max_below, write_may_end}
 
 -- ---- a write starts
 
 write_for : (h : History Entry) (c : Core) (k : Key) (why : Cause) → StandsFor h c → k.region < regions c.setup → CanWriteFor c k why → MayWriteFor c.setup h k why
-write_for h c k Pressure st lt f = is_victim h c k st f
+write_for h c k Pressure st lt f = is_pick h c k st f
 write_for h c k Unmap st lt f = sym (closing_is h c k.region st lt) ∙ f
 write_for h c k Flush st lt f = f
 

@@ -5,6 +5,7 @@ use Rattle.page_base.specs.declared.keys.Key.{Key}
 use Rattle.page_base.specs.declared.keys.Why.{Why}
 use Rattle.page_base.specs.declared.keys.Why.TheVariants.{Read}
 use Rattle.page_base.specs.declared.keys.Raise.{Raise}
+use Rattle.page_base.specs.KeyOrder.{is_past, least}
 use Rattle.page_base.specs.Lanes.{LaneSeen}
 use Rattle.page_base.specs.Pages.{same}
 use Rattle.page_model.specs.declared.entry.HintAnswer.{HintAnswer}
@@ -181,6 +182,10 @@ pick c = option_map pick_of (find (can_leave c) c.pages)
 
 abbrev pub oldest_of : Core → ℕ → Option Pick
 oldest_of c r = option_map pick_of (find (λ (p : Resident). p.key.region == r) c.pages)
+
+-- the least dirty page past a key, of all where none is given
+abbrev pub next_dirty : Core → Option Key → Option Key
+next_dirty c after = least (filter (λ (k : Key). is_dirty c k && is_past after k) (map (λ (r : Resident). r.key) c.pages))
 
 abbrev pub is_full : Core → Bool
 is_full c = nat_le c.setup.faults (length c.queue)

@@ -1,7 +1,8 @@
--- Memory pressure, and which page leaves. The marks are shares of the frames that the stripe has.
-use Rattle.std.specs.Prelude.{◌+◌, Bool, false, not, ◌&&◌, ◌||◌, nat_lt, nat_le, ◌==◌, [], ◌∷◌, length, find, Option}
+-- Memory pressure, which page leaves, and which a flush writes next. The marks are shares of the frames that the stripe has.
+use Rattle.std.specs.Prelude.{◌+◌, Bool, false, not, ◌&&◌, ◌||◌, nat_lt, nat_le, ◌==◌, [], ◌∷◌, length, find, filter, Option}
 use Rattle.histories.specs.Histories.{History}
 use Rattle.page_base.specs.declared.keys.Key.{Key}
+use Rattle.page_base.specs.KeyOrder.{is_past, least}
 use Rattle.page_base.specs.Pages.{on_mark, off_mark}
 use Rattle.page_model.specs.declared.entry.Entry.{Entry}
 use Rattle.page_model.specs.declared.entry.Entry.TheVariants.{Filled, Evicted}
@@ -25,5 +26,9 @@ abbrev pub can_leave : History Entry → Key → Bool
 can_leave h k = not (is_writing h k) && (not (is_dirty h k) || is_home h k.region)
 
 -- the oldest resident page that isn't being written, and is clean or has its lane home
-abbrev pub victim : History Entry → Option Key
-victim h = find (can_leave h) (residents h)
+abbrev pub pick : History Entry → Option Key
+pick h = find (can_leave h) (residents h)
+
+-- the least dirty page past a key, of all where none is given: the next that a flush writes
+abbrev pub next_dirty : History Entry → Option Key → Option Key
+next_dirty h after = least (filter (λ (k : Key). is_dirty h k && is_past after k) (residents h))

@@ -137,7 +137,7 @@ evicted_down_to_the_low_mark = loaded_in 0 ++ (loaded_in 1 ++ (loaded_in 2 ++ (E
 abbrev pub dirty_then_clean : List Entry
 dirty_then_clean = stored 1 ++ loaded_in 1
 
--- the clean page is the victim while the dirty one is being written
+-- the clean page is the pick while the dirty one is being written
 abbrev pub evicted_beside_a_write : List Entry
 evicted_beside_a_write = dirty_then_clean ++ (StartWrite (page 0) Flush ∷ Evicted (page 1) Pressure ∷ [])
 

@@ -19,7 +19,7 @@ use Rattle.page_model.specs.Residents.{residents, is_resident, reads_out, frames
 use Rattle.page_model.specs.Faults.{is_write, is_protected_why, last_why, pending, is_pending}
 use Rattle.page_model.specs.Bits.{is_protected, is_dirty, written_since}
 use Rattle.page_model.specs.Closings.{is_closing, is_unmapped, is_quiet}
-use Rattle.page_model.specs.Evictions.{has_pressure, victim}
+use Rattle.page_model.specs.Evictions.{has_pressure, pick}
 use Rattle.page_model.specs.Serving.{chosen, next_of, first_answer}
 use Rattle.page_model.specs.StoreFaults.{last_fault, read_fault}
 use Rattle.page_model.specs.Legal.{MayFollow, IsLegal}
@@ -122,10 +122,10 @@ WaitingIsProtected =
 
 pub record GoesAhead (s : Setup) (h : History Entry) : Type 0 where
   pub something : next_of s h ≡ serve.Nothing → ⊥
-  pub room : next_of s h ≡ serve.Room → (has_pressure s h ≡ true) × ((k : Key) × (victim h ≡ Some k))
+  pub room : next_of s h ≡ serve.Room → (has_pressure s h ≡ true) × ((k : Key) × (pick h ≡ Some k))
 
 -- while the lane of each region is home and a fault is pending, there is something to do; where it is to make room, there
--- is a victim
+-- is a pick
 abbrev pub SomethingIsNext : Type 0
 SomethingIsNext =
     (s : Setup) (h : History Entry)

@@ -16,7 +16,7 @@ use Rattle.page_model.specs.Residents.{is_resident}
 use Rattle.page_model.specs.Faults.{pending, is_pending}
 use Rattle.page_model.specs.Bits.{is_protected, is_dirty}
 use Rattle.page_model.specs.Closings.{is_closing, is_unmapped, is_quiet}
-use Rattle.page_model.specs.Evictions.{has_pressure, victim}
+use Rattle.page_model.specs.Evictions.{has_pressure, pick}
 use Rattle.page_model.specs.Serving.{next_of, hint_answer}
 use Rattle.page_model.specs.StoreFaults.{CountsRise}
 
@@ -47,13 +47,13 @@ pub record MayRaise (s : Setup) (h : History Entry) (k : Key) (why : Why) : Type
   pub room : nat_lt (length (pending h)) s.faults ≡ true
   pub fits : MayRaiseFor s h k why
 
--- the page is the victim, and memory is short
-pub record IsVictim (s : Setup) (h : History Entry) (k : Key) : Type 0 where
+-- the page is the pick, and memory is short
+pub record IsPick (s : Setup) (h : History Entry) (k : Key) : Type 0 where
   pub pressure : has_pressure s h ≡ true
-  pub victim : victim h ≡ Some k
+  pub pick : pick h ≡ Some k
 
 abbrev pub MayWriteFor : Setup → History Entry → Key → Cause → Type 0
-MayWriteFor s h k Pressure = IsVictim s h k
+MayWriteFor s h k Pressure = IsPick s h k
 MayWriteFor s h k Unmap = is_closing h k.region ≡ true
 MayWriteFor s h k Flush = Unit {0}
 
@@ -65,7 +65,7 @@ pub record MayStartWrite (s : Setup) (h : History Entry) (k : Key) (why : Cause)
   pub fits : MayWriteFor s h k why
 
 abbrev pub MayEvictFor : Setup → History Entry → Key → Cause → Type 0
-MayEvictFor s h k Pressure = IsVictim s h k
+MayEvictFor s h k Pressure = IsPick s h k
 MayEvictFor s h k Unmap = is_closing h k.region ≡ true
 MayEvictFor s h k Flush = ⊥
 

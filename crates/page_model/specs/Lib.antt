@@ -1,5 +1,6 @@
 pub mod Setups
 pub mod Entries
+pub mod Journals
 pub mod Memory
 pub mod InFlight
 pub mod Residents

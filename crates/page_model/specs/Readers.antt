@@ -1,10 +1,11 @@
 -- What the readers of a core answer, and what its trips and its next service know, read off the history that it stands for.
-use Rattle.std.specs.Prelude.{◌+◌, ◌≤◌, ◌&&◌, ℕ, ◌<◌, true, false, ◌∷◌, length, Some, option_map, ◌≡◌}
+use Rattle.std.specs.Prelude.{◌+◌, ◌≤◌, ◌&&◌, ℕ, ◌<◌, true, false, ◌∷◌, length, Option, Some, None, option_map, ◌≡◌}
 use Rattle.std.specs.Bool.{OnTrue}
 use Rattle.std.specs.List.{AllByRecursion}
 use Rattle.histories.specs.Histories.{History}
 use Rattle.page_base.specs.declared.keys.Key.{Key}
 use Rattle.page_base.specs.declared.keys.Why.{Why}
+use Rattle.page_base.specs.KeyOrder.{is_below, is_past}
 use Rattle.page_base.specs.Lanes as lanes
 use Rattle.page_base.specs.Lanes.{LaneSeen}
 use Rattle.page_model.specs.declared.entry.Entry.{Entry}
@@ -19,7 +20,7 @@ use Rattle.page_model.specs.Residents.{residents, is_resident, free_frames, olde
 use Rattle.page_model.specs.Faults.{last_why, is_pending}
 use Rattle.page_model.specs.Bits.{is_protected, is_dirty}
 use Rattle.page_model.specs.Closings.{is_closing, is_unmapped, is_quiet}
-use Rattle.page_model.specs.Evictions.{has_pressure, victim}
+use Rattle.page_model.specs.Evictions.{has_pressure, next_dirty, pick}
 use Rattle.page_model.specs.Serving.{next_of, hint_answer}
 use Rattle.page_model.specs.StoreFaults.{read_fault}
 use Rattle.page_model.specs.Core as core
@@ -56,7 +57,8 @@ pub record StripeReads (h : History Entry) (c : Core) : Type 0 where
   pub free_frames : core.free_frames c ≡ free_frames c.setup h
   pub pressure : core.has_pressure c ≡ has_pressure c.setup h
   pub next : core.next c ≡ next_of c.setup h
-  pub pick : core.pick c ≡ option_map (picked h) (victim h)
+  pub pick : core.pick c ≡ option_map (picked h) (pick h)
+  pub next_dirty : (after : Option Key) → core.next_dirty c after ≡ next_dirty h after
 
 pub record ReadersAgree : Type 0 where
   pub pages : (h : History Entry) (c : Core) (k : Key) → StandsFor h c → has_page c.setup k ≡ true
@@ -110,6 +112,27 @@ pub record PicksKnow : Type 0 where
   pub picked : (h : History Entry) (c : Core) (p : Pick) → StandsFor h c → core.pick c ≡ Some p → MayLeave c p
   pub oldest : (h : History Entry) (c : Core) (r : ℕ) (p : Pick) → StandsFor h c → core.oldest_of c r ≡ Some p
       → IsHeldOf c r p
+
+-- ---- what is known of the page that a flush writes next
+
+-- a dirty page past a key, and none such comes before it
+pub record IsNextToFlush (c : Core) (after : Option Key) (k : Key) : Type 0 where
+  pub page : has_page c.setup k ≡ true
+  pub dirty : core.is_dirty c k ≡ true
+  pub past : is_past after k ≡ true
+  pub first : (j : Key) → core.is_dirty c j ≡ true → is_past after j ≡ true → is_below j k ≡ false
+
+-- the next dirty page is such a page, and there is one unless no page past the key is dirty
+pub record FlushKnows : Type 0 where
+  pub next : (h : History Entry) (c : Core) (after : Option Key) (k : Key) → StandsFor h c
+      → core.next_dirty c after ≡ Some k → IsNextToFlush c after k
+  pub none : (c : Core) (after : Option Key) (k : Key) → core.next_dirty c after ≡ None → is_past after k ≡ true
+      → core.is_dirty c k ≡ false
+  pub only : (c : Core) (after : Option Key) (k : Key) → core.is_dirty c k ≡ true → is_past after k ≡ true
+      → ((j : Key) → core.is_dirty c j ≡ true → is_past after j ≡ true → is_below j k ≡ false)
+      → core.next_dirty c after ≡ Some k
+  pub empty : (c : Core) (after : Option Key) → ((k : Key) → is_past after k ≡ true → core.is_dirty c k ≡ false)
+      → core.next_dirty c after ≡ None
 
 -- ---- what is known where a service may start
 

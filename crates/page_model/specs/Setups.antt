@@ -2,6 +2,7 @@
 use Rattle.std.specs.Prelude.{ℕ, Bool, false, ◌&&◌, ◌==◌, nat_lt, List, length, slice_get, Option, Some, None, is_some, option_map, ◌≡◌, ◌<◌, ◌≤◌, true}
 use Rattle.page_base.specs.declared.keys.Key.{Key}
 use Rattle.page_base.specs.declared.keys.RegionShape.{RegionShape}
+use Rattle.page_base.specs.declared.limits.TheConstants.{MOST_PAGE_SIZE}
 use Rattle.page_base.specs.Lanes.{Origin, LaneSeen, told_at}
 use Rattle.page_base.specs.Pages.{stripe_of, quota_of}
 
@@ -79,7 +80,7 @@ pub record IsLaneOf (s : Setup) (r : ℕ) (shape : RegionShape) (origin : Origin
 -- A setup that fits together. Whoever makes a stripe has to know it.
 pub record Fits (s : Setup) : Type 0 where
   pub some_bytes : 0 < s.page_size
-  pub few_bytes : s.page_size ≤ 1048576
+  pub few_bytes : s.page_size ≤ MOST_PAGE_SIZE
   pub some_frame : 0 < quota s
   pub some_fault : 0 < s.faults
   pub marks : s.low < s.high

@@ -3,7 +3,9 @@
 //! statements and the conditions stand in `specs/Events.antt`, and what is known of readers and trips in `specs/Readers.antt`.
 ghost use Rattle.page_model.specs.Events.{FreshStands, LoadStands, SaveStands, RaiseStands, HintStands, StartReadStands, FilledStands, ReadFailedStands};
 ghost use Rattle.page_model.specs.Events.{OpenPageStands, DropRaiseStands, StartWriteStands, WrittenStands, WriteFailedStands, EvictStands, ClosingStands, UnmappedStands};
-ghost use Rattle.page_model.specs.Readers.{ReadersAgree, PagesShow, WhysAgree, PicksKnow, ServiceKnows, StartsOpen};
+ghost use Rattle.page_model.specs.Readers.{ReadersAgree, PagesShow, WhysAgree, PicksKnow, FlushKnows, ServiceKnows, StartsOpen};
+
+use page_base::laws::least_is_first;
 
 /// A stripe that has just been made stands for no entry.
 pub fn fresh_stands()
@@ -104,6 +106,13 @@ pub fn whys_agree()
 pub fn picks_know()
     ensures { PicksKnow }
 {}
+
+/// What is known of the page that a flush writes next.
+pub fn flush_knows()
+    ensures { FlushKnows }
+{
+    least_is_first();
+}
 
 /// What is known of the next service, of a lane that is home, and of a trip that is out.
 pub fn service_knows()

@@ -1,8 +1,9 @@
 //! Journals: what is told of a stripe's entries, one by one, and keeps them or not.
-ghost use Rattle.std.specs.Prelude.{◌≡◌, ℕ, List, [], ◌∷◌};
+ghost use Rattle.std.specs.Prelude.{◌≡◌};
 ghost use Rattle.histories.specs.Histories.{History};
 ghost use Rattle.page_model.specs.declared.entry.Entry.{Entry};
 ghost use Rattle.page_model.specs.Entries.{entry_of};
+ghost use Rattle.page_model.specs.Journals.{NotesOnTop};
 
 use crate::note::Note;
 
@@ -18,7 +19,7 @@ pub trait Journal {
 
     /// Notes one more entry, made by this owner, on top of those that it has noted.
     fn note(&mut self, owner: u32, note: &Note<'_>)
-        ensures noted { (h : History Entry) → has_noted self.old h → has_noted self.new ((owner, entry_of note.now) ∷ h) }
+        ensures noted { NotesOnTop has_noted owner (entry_of note.now) self.old self.new }
         ensures made { made_with self.new ≡ made_with self.old };
 }
 

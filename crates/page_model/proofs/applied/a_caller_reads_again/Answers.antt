@@ -1,5 +1,4 @@
 use Rattle.std.proofs.Common.{[], ◌∷◌, append-nil, refl, reverse, sym}
-use Rattle.histories.specs.Histories.{Others}
 use Rattle.page_base.specs.declared.keys.Why.TheVariants.{Read}
 use Rattle.page_model.specs.declared.entry.Entry.TheVariants.{Raised, ReadFailed, StartRead}
 use Rattle.page_model.specs.Examples.{history_of, page, read_fails, reads_fail_twice}

@@ -1,4 +1,4 @@
-use Rattle.std.proofs.Common.{[], ap, append-nil, reverse, sym, ◌∙◌}
+use Rattle.std.proofs.Common.{[], ap, append-nil, sym, ◌∙◌}
 use Rattle.histories.specs.Histories.{History, calls_of}
 use Rattle.page_model.specs.declared.entry.Entry.{Entry}
 use Rattle.page_model.specs.Examples.{history_of, read_fails}
