@@ -1,5 +1,5 @@
 -- The pages of one stripe, copied one after another.
-use Rattle.std.proofs.Common.{◌≡◌, ◌⊎◌, inl, inr, ℕ, zero, suc, ◌+◌, ◌*◌, ◌-◌, ◌/◌, ◌%◌, ◌<◌, ◌≤◌, true, List, [], ◌∷◌, ◌++◌, slice_get, Some, length, refl, sym, ap, ◌∙◌, arith, rules, length-append}
+use Rattle.std.proofs.Common.{◌≡◌, inl, inr, ℕ, ◌+◌, ◌*◌, ◌-◌, ◌/◌, ◌%◌, ◌<◌, ◌≤◌, true, List, [], ◌++◌, length, refl, sym, ap, ◌∙◌, arith, rules, length-append}
 use Rattle.std.proofs.lemmas.Bool.{cases_order, cases_lt, and_parts, ltb-true}
 use Rattle.std.proofs.lemmas.List.{places, same_lists}
 use Rattle.std.proofs.lemmas.Nat.{div-add-mod', mod_below}
@@ -83,10 +83,3 @@ has_residue region pages size n s p below has =
 
 pub below_of : (region pages size n s p : ℕ) → has_page (memory_origin region pages size n s) p ≡ true → p < pages
 below_of region pages size n s p has = ltb-true p pages (and_parts _ _ has).0
-
--- the last of a list that grew by one, or one that was there
-pub slice_get-push_cases : {X : Type 0} (xs : List X) (x y : X) (i : ℕ) → slice_get (xs ++ x ∷ []) i ≡ Some y → (slice_get xs i ≡ Some y) ⊎ ((i ≡ length xs) × (y ≡ x))
-slice_get-push_cases [] x y zero e = inr (refl, cc)
-slice_get-push_cases [] x y (suc i) e = absurd (cc)
-slice_get-push_cases (z ∷ xs) x y zero e = inl e
-slice_get-push_cases (z ∷ xs) x y (suc i) e = elim (slice_get-push_cases xs x y i e) [ inl h ↦ inl h | inr h ↦ inr (ap suc h.0, h.1) ]

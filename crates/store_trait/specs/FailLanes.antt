@@ -38,6 +38,13 @@ module _ {S : Type 0} where
   abbrev pub written_more : FailSeen S → FailSeen S → FailSeen S
   written_more old new = record old { writes = one_more old.writes; inner = new.inner; failed = new.failed }
 
+  -- the read, or the write, that was counted last is on the list
+  abbrev pub read_is_listed : (old new : FailSeen S) → Bool
+  read_is_listed old new = is_listed new.reads old.failing_reads
+
+  abbrev pub write_is_listed : (old new : FailSeen S) → Bool
+  write_is_listed old new = is_listed new.writes old.failing_writes
+
   -- Where the call is listed it failed, and the lane inside is as it was. Else it is the call of the lane inside, and fails
   -- only where that one's count of faults rose
   pub record FailsWhereListed (seen : S → LaneSeen) (listed : Bool) (old new : FailSeen S) {A E : Type 0} (result : Result A E) : Type 0 where

@@ -1,5 +1,5 @@
 -- A store in memory, as a whole and by lanes.
-use Rattle.std.specs.Prelude.{ℕ, ◌+◌, ◌*◌, ◌/◌, if◌then◌else◌, List, [], map, slice_range, Option, Some, None}
+use Rattle.std.specs.Prelude.{ℕ, ◌+◌, ◌*◌, ◌/◌, if◌then◌else◌, List, map, slice_range, Option, Some, None}
 use Rattle.std.specs.List.{range_with_len}
 use Rattle.page_base.specs.Backings.{in_memory}
 use Rattle.page_base.specs.Lanes.{Origin, LaneSeen, has_page}

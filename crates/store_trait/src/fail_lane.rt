@@ -1,9 +1,7 @@
 //! A lane that fails at stated calls, to try what is written on stores.
-ghost use Rattle.std.specs.Prelude.{◌≡◌, ◌+◌, ◌-◌, ◌/◌, ◌^◌, min, length, true, OnOk};
-ghost use Rattle.page_base.specs.Lanes.{told_at};
-ghost use Rattle.store_trait.specs.Causes.{HasCause};
-ghost use Rattle.store_trait.specs.FailLanes.{is_listed, one_more, fresh_lane, fail_seen, read_more, written_more, FailsWhereListed};
-ghost use Rattle.store_trait.specs.Lanes.{IsPlace, IsPageOf, ChangesOnly, retold};
+ghost use Rattle.std.specs.Prelude.{◌≡◌, ◌-◌, ◌^◌, min, length, true, OnOk};
+ghost use Rattle.store_trait.specs.FailLanes.{is_listed, one_more, fresh_lane, fail_seen, read_is_listed, write_is_listed, read_more, written_more, FailsWhereListed};
+ghost use Rattle.store_trait.specs.Lanes.{IsPlace, GivesPageAt, TakesPageAt, ChangesOnlyAt, HasLaneCause};
 
 use crate::{Store, StoreFault};
 use page_base::List;
@@ -73,13 +71,13 @@ impl<S: Store> Store for FailLane<S> {
 
     fn read_from_store(&mut self, buf: &mut [u8], off: u64) -> Result<(), StoreFault>
         requires place { IsPlace (S.seen self.old.inner).origin (length buf.old) off }
-        ensures bytes { OnOk result (IsPageOf (S.seen self.old.inner).told (off / (S.seen self.old.inner).origin.page_size) buf.new) }
+        ensures bytes { OnOk result (GivesPageAt (S.seen self.old.inner) off buf.new) }
         ensures same { (S.seen self.new.inner).told ≡ (S.seen self.old.inner).told }
         ensures origin { (S.seen self.new.inner).origin ≡ (S.seen self.old.inner).origin }
-        ensures cause { HasCause (λ e. e.faults) (fail_seen S.seen self.old).count (fail_seen S.seen self.new).count result }
+        ensures cause { HasLaneCause (fail_seen S.seen self.old) (fail_seen S.seen self.new) result }
         ensures lists { self.new ≡ read_more self.old self.new }
-        ensures listed { FailsWhereListed S.seen (is_listed self.new.reads self.old.failing_reads) self.old self.new result }
-        ensures not_read { is_listed self.new.reads self.old.failing_reads ≡ true → buf.new ≡ buf.old }
+        ensures listed { FailsWhereListed S.seen (read_is_listed self.old self.new) self.old self.new result }
+        ensures not_read { read_is_listed self.old self.new ≡ true → buf.new ≡ buf.old }
     {
         self.reads = self.reads.saturating_add(1);
         if lists(&self.failing_reads, self.reads) {
@@ -95,12 +93,12 @@ impl<S: Store> Store for FailLane<S> {
 
     fn write_to_store(&mut self, buf: &[u8], off: u64) -> Result<(), StoreFault>
         requires place { IsPlace (S.seen self.old.inner).origin (length buf.now) off }
-        ensures written { let page = off / (S.seen self.old.inner).origin.page_size in OnOk result (told_at (S.seen self.new.inner).told page ≡ retold (told_at (S.seen self.old.inner).told page) buf.now) }
-        ensures others { ChangesOnly (off / (S.seen self.old.inner).origin.page_size) (S.seen self.old.inner).told (S.seen self.new.inner).told }
+        ensures written { OnOk result (TakesPageAt (S.seen self.old.inner) (S.seen self.new.inner) off buf.now) }
+        ensures others { ChangesOnlyAt (S.seen self.old.inner) (S.seen self.new.inner) off }
         ensures origin { (S.seen self.new.inner).origin ≡ (S.seen self.old.inner).origin }
-        ensures cause { HasCause (λ e. e.faults) (fail_seen S.seen self.old).count (fail_seen S.seen self.new).count result }
+        ensures cause { HasLaneCause (fail_seen S.seen self.old) (fail_seen S.seen self.new) result }
         ensures lists { self.new ≡ written_more self.old self.new }
-        ensures listed { FailsWhereListed S.seen (is_listed self.new.writes self.old.failing_writes) self.old self.new result }
+        ensures listed { FailsWhereListed S.seen (write_is_listed self.old self.new) self.old self.new result }
     {
         self.writes = self.writes.saturating_add(1);
         if lists(&self.failing_writes, self.writes) {

@@ -1,9 +1,10 @@
 //! A lane in memory.
 //!
 //! It keeps its own pages one after another: of a region whose pages go round n stripes, page p is the lane's page p / n.
-ghost use Rattle.std.specs.Prelude.{◌≡◌, ◌<◌, ◌≤◌, ◌+◌, ◌*◌, ◌-◌, ◌/◌, ◌%◌, true, length, IfOk};
+ghost use Rattle.std.specs.Prelude.{◌≡◌, ◌<◌, ◌≤◌, ◌*◌, true, length, IfOk};
 ghost use Rattle.store_trait.specs.Memory.{memory_origin};
-ghost use Rattle.store_trait.specs.InsideMemory.{ReachesEach, TakesShare};
+ghost use Rattle.page_base.specs.declared.limits.TheConstants.{MOST_STRIPES};
+ghost use Rattle.store_trait.specs.InsideMemory.{ReachesEach, TakesShare, LiesAmong, start_among};
 
 use crate::{Store, StoreFault};
 use page_base::{Bytes, OutOfMemory};
@@ -34,7 +35,7 @@ fn share_of(
 ) -> Result<Bytes, OutOfMemory>
     requires some { 0 < stripes }
     requires first { first < stripes }
-    requires few { stripes ≤ 64 }
+    requires few { stripes ≤ MOST_STRIPES }
     requires whole { pages * page_size ≤ length contents.now }
     ensures { IfOk result (λ own. TakesShare page_size pages stripes first contents.now own.items) }
 {
@@ -57,8 +58,7 @@ fn share_of(
 impl MemLane {
     ghost use Rattle.std.specs.Prelude.{Some};
     ghost use Rattle.page_base.specs.Lanes.{has_page, told_at};
-    ghost use Rattle.store_trait.specs.Memory.{share_seen};
-    ghost use Rattle.store_trait.specs.MemLanes.{lane_origin, lane_seen};
+    ghost use Rattle.store_trait.specs.MemLanes.{lane_origin, lane_seen, IsShareOf};
 
     pub(crate) fn share(
         alloc: Global,
@@ -71,9 +71,9 @@ impl MemLane {
     ) -> Result<MemLane, OutOfMemory>
         requires some { 0 < page_size }
         requires stripe { stripe < stripes }
-        requires few { stripes ≤ 64 }
+        requires few { stripes ≤ MOST_STRIPES }
         requires whole { pages * page_size ≤ length contents.now }
-        ensures { IfOk result (λ lane. lane_seen lane ≡ share_seen (memory_origin region pages page_size stripes stripe) contents.now) }
+        ensures { IfOk result (λ lane. IsShareOf region pages page_size stripes stripe contents.now lane) }
     {
         let first = (stripe + stripes - u32::from(region) % stripes) % stripes;
         let kept = share_of(alloc, contents, page_size, pages, first, stripes)?;
@@ -116,8 +116,8 @@ impl MemLane {
 
     /// Where a page lies among the lane's own.
     fn start_of(&self, off: u64) -> usize
-        requires fits { off / self.now.page_size / self.now.stripes * self.now.page_size + self.now.page_size ≤ length self.now.kept.items }
-        ensures start { result ≡ off / self.now.page_size / self.now.stripes * self.now.page_size }
+        requires fits { LiesAmong self.now.page_size self.now.stripes off self.now.kept.items }
+        ensures start { result ≡ start_among self.now.page_size self.now.stripes off }
     {
         let page = off / u64::from(self.page_size);
         (page / u64::from(self.stripes)) as usize * self.page_size as usize

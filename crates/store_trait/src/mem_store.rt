@@ -1,5 +1,5 @@
 //! A region in memory, and its lanes.
-ghost use Rattle.std.specs.Prelude.{◌≡◌, ◌<◌, ◌≤◌, ◌+◌, ◌*◌, ◌-◌, ◌/◌, ◌%◌, ◌^◌, length};
+ghost use Rattle.std.specs.Prelude.{◌≡◌, ◌<◌, ◌*◌, ◌-◌, ◌/◌, length};
 
 use crate::mem_lane::MemLane;
 use page_base::{Bytes, List};

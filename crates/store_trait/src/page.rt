@@ -1,8 +1,7 @@
 //! A lane's pages by their numbers.
 ghost use Rattle.std.specs.Prelude.{◌≡◌, ◌*◌, ◌^◌, ◌<◌, true, length, OnOk};
-ghost use Rattle.page_base.specs.Lanes.{has_page, told_at};
-ghost use Rattle.store_trait.specs.Causes.{HasCause};
-ghost use Rattle.store_trait.specs.Lanes.{IsPageOf, ChangesOnly, retold};
+ghost use Rattle.page_base.specs.Lanes.{has_page};
+ghost use Rattle.store_trait.specs.Lanes.{IsPageOf, TakesPage, ChangesOnly, HasLaneCause};
 
 use crate::laws::pages_have_places;
 use crate::{Store, StoreFault};
@@ -16,7 +15,7 @@ pub fn read_page<S: Store>(lane: &mut S, page: u32, buf: &mut [u8]) -> Result<()
     ensures bytes { OnOk result (IsPageOf (S.seen lane.old).told page buf.new) }
     ensures same { (S.seen lane.new).told ≡ (S.seen lane.old).told }
     ensures origin { (S.seen lane.new).origin ≡ (S.seen lane.old).origin }
-    ensures cause { HasCause (λ e. e.faults) (S.seen lane.old).count (S.seen lane.new).count result }
+    ensures cause { HasLaneCause (S.seen lane.old) (S.seen lane.new) result }
 {
     pages_have_places();
     let off = u64::from(page) * buf.len() as u64;
@@ -29,10 +28,10 @@ pub fn write_page<S: Store>(lane: &mut S, page: u32, buf: &[u8]) -> Result<(), S
     requires some { 0 < (S.seen lane.old).origin.page_size }
     requires size { length buf.now ≡ (S.seen lane.old).origin.page_size }
     requires fits { page * length buf.now < 2 ^ 64 }
-    ensures written { OnOk result (told_at (S.seen lane.new).told page ≡ retold (told_at (S.seen lane.old).told page) buf.now) }
+    ensures written { OnOk result (TakesPage (S.seen lane.old) (S.seen lane.new) page buf.now) }
     ensures others { ChangesOnly page (S.seen lane.old).told (S.seen lane.new).told }
     ensures origin { (S.seen lane.new).origin ≡ (S.seen lane.old).origin }
-    ensures cause { HasCause (λ e. e.faults) (S.seen lane.old).count (S.seen lane.new).count result }
+    ensures cause { HasLaneCause (S.seen lane.old) (S.seen lane.new) result }
 {
     pages_have_places();
     let off = u64::from(page) * buf.len() as u64;

@@ -1,9 +1,11 @@
 //! A region in memory cut into lanes, one for each stripe, and the lanes joined to a region.
-ghost use Rattle.std.specs.Prelude.{◌≡◌, ◌<◌, ◌≤◌, ◌*◌, ◌/◌, ◌^◌, ℕ, length, slice_get, Some, IfOk, IfErr};
-ghost use Rattle.store_trait.specs.MemLanes.{AreLanesOf, AreOfOneSplit, AreJoined, lane_origin};
+ghost use Rattle.std.specs.Prelude.{◌≡◌, ◌<◌, ◌≤◌, ◌*◌, ◌/◌, ◌^◌, length, IfOk, IfErr};
+ghost use Rattle.page_base.specs.declared.limits.TheConstants.{MOST_STRIPES};
+ghost use Rattle.store_trait.specs.MemLanes.{AreLanesOf, AreLanesOfStore, AreOfOneSplit, AreJoined, HavePageSize};
 
 use crate::mem_lane::MemLane;
 use crate::mem_store::{JoinBack, MemBack, MemStore};
+use page_base::laws::lists_by_place;
 use page_base::{Bytes, Layout, List, OutOfMemory};
 use std::alloc::Global;
 
@@ -17,10 +19,11 @@ fn lanes_of(
 ) -> Result<List<MemLane>, OutOfMemory>
     requires some { 0 < page_size }
     requires stripes { 0 < stripes }
-    requires few { stripes ≤ 64 }
+    requires few { stripes ≤ MOST_STRIPES }
     requires whole { pages * page_size ≤ length contents.now }
     ensures { IfOk result (λ lanes. AreLanesOf region pages page_size stripes contents.now lanes.items) }
 {
+    lists_by_place::<MemLane>();
     let mut lanes = List::new(alloc);
     lanes.reserve(stripes as usize)?;
     for stripe in 0..stripes {
@@ -57,7 +60,7 @@ impl MemStore {
         requires page_size { layout.now.page_size ≡ self.page_size }
         requires few_pages { length self.contents.items / self.page_size < 2 ^ 32 }
         ensures one_split { IfOk result (λ lanes. AreOfOneSplit lanes.items) }
-        ensures lanes { IfOk result (λ lanes. AreLanesOf region (length self.contents.items / self.page_size) self.page_size layout.now.stripes self.contents.items lanes.items) }
+        ensures lanes { IfOk result (λ lanes. AreLanesOfStore self region layout.now.stripes lanes.items) }
         ensures err { IfErr result (λ back. back.store ≡ self) }
     {
         let contents = self.contents.as_slice();
@@ -78,7 +81,7 @@ impl MemStore {
     /// The store that was split into these lanes, with what was written to them since. The only refusal is want of memory.
     pub fn join(lanes: List<MemLane>) -> Result<MemStore, JoinBack>
         requires { AreOfOneSplit lanes.items }
-        ensures page_size { IfOk result (λ store. (s : ℕ) (lane : _) → slice_get lanes.items s ≡ Some lane → store.page_size ≡ (lane_origin lane).page_size) }
+        ensures page_size { IfOk result (λ store. HavePageSize store.page_size lanes.items) }
         ensures contents { IfOk result (λ store. AreJoined lanes.items store.contents.items) }
         ensures err { IfErr result (λ back. back.lanes ≡ lanes) }
     {

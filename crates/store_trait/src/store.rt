@@ -2,10 +2,9 @@
 //!
 //! Whatever implements it may fail at any call, and then says so by its count of faults. A caller that hands a fault on
 //! relies on that count alone, so an implementation raises it before it answers `Err`.
-ghost use Rattle.std.specs.Prelude.{◌≡◌, ◌/◌, ℕ, length, IfSome, OnOk};
+ghost use Rattle.std.specs.Prelude.{◌≡◌, ℕ, length, IfSome, OnOk};
 ghost use Rattle.page_base.specs.Lanes.{LaneSeen, told_at};
-ghost use Rattle.store_trait.specs.Causes.{HasCause};
-ghost use Rattle.store_trait.specs.Lanes.{IsPlace, IsPageOf, ChangesOnly, retold};
+ghost use Rattle.store_trait.specs.Lanes.{IsPlace, GivesPageAt, TakesPageAt, ChangesOnlyAt, HasLaneCause};
 
 use thiserror::Error;
 
@@ -25,19 +24,19 @@ pub trait Store {
     /// bytes.
     fn read_from_store(&mut self, buf: &mut [u8], off: u64) -> Result<(), StoreFault>
         requires place { IsPlace (seen self.old).origin (length buf.old) off }
-        ensures bytes { OnOk result (IsPageOf (seen self.old).told (off / (seen self.old).origin.page_size) buf.new) }
+        ensures bytes { OnOk result (GivesPageAt (seen self.old) off buf.new) }
         ensures same { (seen self.new).told ≡ (seen self.old).told }
         ensures origin { (seen self.new).origin ≡ (seen self.old).origin }
-        ensures cause { HasCause (λ e. e.faults) (seen self.old).count (seen self.new).count result };
+        ensures cause { HasLaneCause (seen self.old) (seen self.new) result };
 
     /// Writes the page that lies at byte `off` of the region, after UMap's `write_to_store`. After a fault that page may
     /// hold any bytes.
     fn write_to_store(&mut self, buf: &[u8], off: u64) -> Result<(), StoreFault>
         requires place { IsPlace (seen self.old).origin (length buf.now) off }
-        ensures written { let page = off / (seen self.old).origin.page_size in OnOk result (told_at (seen self.new).told page ≡ retold (told_at (seen self.old).told page) buf.now) }
-        ensures others { ChangesOnly (off / (seen self.old).origin.page_size) (seen self.old).told (seen self.new).told }
+        ensures written { OnOk result (TakesPageAt (seen self.old) (seen self.new) off buf.now) }
+        ensures others { ChangesOnlyAt (seen self.old) (seen self.new) off }
         ensures origin { (seen self.new).origin ≡ (seen self.old).origin }
-        ensures cause { HasCause (λ e. e.faults) (seen self.old).count (seen self.new).count result };
+        ensures cause { HasLaneCause (seen self.old) (seen self.new) result };
 
     /// How many calls of this lane have failed, standing at the type's last value.
     fn faults(&self) -> u64

@@ -1,7 +1,6 @@
 use Rattle.std.proofs.Common.{◌≡◌, ◌+◌, ◌∷◌, [], ℕ, length, ap, ◌∙◌, arith, inl, inr, length-append}
 use Rattle.store_trait.specs.Memory.{memory_origin, share_seen}
 use Rattle.store_trait.specs.MemLanes.{lane_seen}
-use Rattle.store_trait.proofs.Shares.{slice_get-push_cases}
 use Rattle.store_trait.proofs.split.lanes_of.Goals as goal
 
 pub loop-stripe-preserved : goal.loop-stripe-preserved
@@ -12,7 +11,7 @@ loop-stripe-preserved c =
     record {
       count = ap length c.put.ensures.items ∙ length-append c.loop-stripe.lanes.items (c.in_ok-share.field-0 ∷ []) ∙ ap (λ (n : ℕ). n + 1) i.count;
       room = omega arith;
-      each = λ s lane got. elim (slice_get-push_cases c.loop-stripe.lanes.items c.in_ok-share.field-0 lane s (rw c.put.ensures.items at got)) [
+      each = λ s lane got. elim (c.lists_by_place.ensures.grown c.loop-stripe.lanes.items c.in_ok-share.field-0 lane s (rw c.put.ensures.items at got)) [
         | inl old ↦ i.each s lane old
         | inr last ↦ rw (last.0, last.1, i.count) new
       ];
