@@ -1,5 +1,5 @@
 -- Files by path.
-use Rattle.std.proofs.Common.{◌≡◌, ◌≢◌, ◌⊎◌, inl, inr, ℕ, zero, suc, ◌+◌, ◌*◌, ◌-◌, ◌<◌, ◌≤◌, Bool, true, false, not, cond, List, [], ◌∷◌, ◌++◌, map, length, take, drop, slice_index_or, slice_set, Option, Some, None, refl, sym, ap, subst, ◌∙◌, arith, rules, append-nil, length-append, length-drop}
+use Rattle.std.proofs.Common.{◌≡◌, ◌≢◌, inl, inr, ℕ, zero, suc, ◌+◌, ◌*◌, ◌<◌, ◌≤◌, Bool, true, false, not, cond, List, [], ◌∷◌, ◌++◌, map, length, take, drop, slice_index_or, slice_set, Option, Some, None, refl, sym, ap, subst, ◌∙◌, arith, rules, append-nil, length-append, length-drop}
 use Rattle.std.specs.Prelude.{◌==◌}
 use Rattle.std.specs.List.{filter, Contains, range_with_len}
 use Rattle.std.specs.Str.{bytes_eq}
@@ -13,7 +13,7 @@ use Rattle.file_store.specs.Parts.{Extent, striped, whole, PartName, PartSeen, r
 use Rattle.file_store.specs.Shelves.{File, Shelf, file_at, number_of, same_part, without, PutsBack}
 use Rattle.file_store.specs.Folders.{stripe_origin, stripe_name, stripe_names, held, IsOpened}
 use Rattle.file_store.specs.InsideFolders.{stripe_seen}
-use Rattle.file_store.specs.MemFiles.{files_in, file_of}
+use Rattle.file_store.specs.MemFiles.{files_in}
 use Rattle.file_store.specs.InsideMemFolders.{is_at, out_name, out_in, needs, AllFit, PutsPart, IsFirstAt}
 use Rattle.file_store.specs.declared.folder.Cut.{Cut}
 use Rattle.file_store.specs.declared.files.MemFile.{MemFile}

@@ -1,15 +1,15 @@
 -- A part over bytes of its file: what a read gives, and what a write does to what is told.
-use Rattle.std.proofs.Common.{◌≡◌, ◌≢◌, ◌⊎◌, inl, inr, ℕ, zero, suc, ◌+◌, ◌*◌, ◌-◌, ◌/◌, ◌<◌, ◌≤◌, true, false, List, [], ◌∷◌, ◌++◌, length, take, drop, replicate, slice_range, Option, Some, None, refl, sym, ap, subst, ◌∙◌, arith, rules, length-append}
+use Rattle.std.proofs.Common.{◌≡◌, ◌≢◌, inl, inr, ℕ, zero, suc, ◌+◌, ◌*◌, ◌-◌, ◌/◌, ◌≤◌, true, List, [], ◌∷◌, length, take, drop, replicate, slice_range, Option, Some, None, refl, sym, ap, subst, ◌∙◌, arith, rules}
 use Rattle.std.specs.Option.{is_some, IfSome}
 use Rattle.std.proofs.lemmas.Bool.{cases_Bool, cond-true, cond-false, and_parts, ltb-true}
 use Rattle.std.proofs.lemmas.List.{places, same_lists, take-replicate, drop-replicate}
 use Rattle.std.proofs.Math.Nat.{add-sub_cancel_left}
 use Rattle.page_base.specs.ListSeen.{spliced}
 use Rattle.page_base.specs.Lanes.{Origin, has_page, told_at}
-use Rattle.store_trait.specs.Lanes.{IsPlace, ChangesOnly, retold}
+use Rattle.store_trait.specs.Lanes.{ChangesOnly, retold}
 use Rattle.store_trait.specs.Memory.{page_of, told_by}
 use Rattle.store_trait.specs.WholePages.{length-told_by, told_at-told_by}
-use Rattle.file_store.specs.Parts.{Extent, striped, whole, IsRange, piece_at, piece_size, reach, pieces_of, IsRangeOf, rewritten, RangeDiffers, DiffersWithin, IsZeroed}
+use Rattle.file_store.specs.Parts.{Extent, striped, whole, IsRange, piece_at, reach, pieces_of, IsRangeOf, rewritten, RangeDiffers, DiffersWithin, IsZeroed}
 use Rattle.file_store.proofs.Rows.{told_of_page, same_told_at, rows_apart, page_of-spliced_other, page_of-spliced_same}
 
 pub row_inside : (o : Origin) (p : ℕ) → has_page o p ≡ true → p * o.page_size + o.page_size ≤ o.pages * o.page_size

@@ -1,5 +1,5 @@
 -- A file whose first pages were written over by the told ones.
-use Rattle.std.proofs.Common.{◌≡◌, ◌≢◌, ◌⊎◌, inl, inr, ℕ, Bool, true, false, ◌+◌, ◌*◌, ◌-◌, ◌<◌, ◌≤◌, List, ◌++◌, length, take, drop, get_or, Option, Some, None, refl, sym, ap, subst, ◌∙◌, arith, rules}
+use Rattle.std.proofs.Common.{◌≡◌, ◌≢◌, inl, inr, ℕ, Bool, true, false, ◌+◌, ◌*◌, ◌<◌, ◌≤◌, List, length, take, drop, get_or, Option, Some, None, refl, sym, ap, subst, ◌∙◌, arith, rules}
 use Rattle.std.specs.Option.{unwrap_or}
 use Rattle.std.proofs.lemmas.Bool.{cases_lt, cond-true, cond-false, lt-ltb, ne_eqb}
 use Rattle.std.proofs.lemmas.List.{places, same_lists}
@@ -11,7 +11,7 @@ use Rattle.page_base.specs.Lanes.{Origin, has_page, told_at}
 use Rattle.page_base.specs.Pages.{stripe_of}
 use Rattle.store_trait.specs.Memory.{page_of, told_by}
 use Rattle.file_store.specs.Shelves.{PutsPages, own_told}
-use Rattle.file_store.proofs.Rows.{told_of_page, rows_apart, page_of-spliced_other, page_of-spliced_same}
+use Rattle.file_store.proofs.Rows.{told_of_page, page_of-spliced_other, page_of-spliced_same}
 
 -- so far the first k pages were
 pub record PutsUpTo (page_size : ℕ) (own : ℕ → Option (List ℕ)) (k : ℕ) (old new : List ℕ) : Type 0 where

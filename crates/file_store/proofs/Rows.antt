@@ -1,5 +1,5 @@
 -- Pages of one size lie apart, what is told of them, and lists that grow by one.
-use Rattle.std.proofs.Common.{◌≡◌, ◌≢◌, ◌⊎◌, inl, inr, ℕ, zero, suc, ◌+◌, ◌*◌, ◌-◌, ◌<◌, ◌≤◌, true, cond, List, [], ◌∷◌, ◌++◌, length, take, drop, slice_get, Option, Some, None, refl, sym, ap, ◌∙◌, arith, rules}
+use Rattle.std.proofs.Common.{◌≡◌, ◌≢◌, ◌⊎◌, inl, inr, ℕ, ◌+◌, ◌*◌, ◌<◌, ◌≤◌, true, cond, List, length, take, drop, Some, None, sym, ap, ◌∙◌, arith, rules}
 use Rattle.std.proofs.lemmas.Bool.{cases_order, cases_Bool, cond-true, cond-false}
 use Rattle.std.proofs.lemmas.List.{places, same_lists}
 use Rattle.std.proofs.lemmas.Nat.{mul-le}
@@ -39,10 +39,3 @@ same_told_at o f g p same = told_at-told_by o f p ∙ agree ∙ sym (told_at-tol
       | inl its ↦ cond-true (has_page o p) (Some (f p)) None its ∙ ap Some (same its) ∙ sym (cond-true (has_page o p) (Some (g p)) None its)
       | inr other ↦ cond-false (has_page o p) (Some (f p)) None other ∙ sym (cond-false (has_page o p) (Some (g p)) None other)
     ]
-
--- the last of a list that grew by one, or one that was there
-pub slice_get-push_cases : {X : Type 0} (xs : List X) (x y : X) (i : ℕ) → slice_get (xs ++ x ∷ []) i ≡ Some y → (slice_get xs i ≡ Some y) ⊎ ((i ≡ length xs) × (y ≡ x))
-slice_get-push_cases [] x y zero e = inr (refl, cc)
-slice_get-push_cases [] x y (suc i) e = absurd (cc)
-slice_get-push_cases (z ∷ xs) x y zero e = inl e
-slice_get-push_cases (z ∷ xs) x y (suc i) e = elim (slice_get-push_cases xs x y i e) [ inl h ↦ inl h | inr h ↦ inr (ap suc h.0, h.1) ]

@@ -1,11 +1,12 @@
 -- What the calls of a folder answer, and what they do to told files and to the parts that are out.
-use Rattle.std.specs.Prelude.{◌≡◌, ◌≢◌, ℕ, ◌+◌, ◌*◌, ◌<◌, ◌≤◌, ⊤, min, Bool, true, false, List, [], ◌∷◌, ◌++◌, map, length, take, replicate, Option, Some, None, is_some, unwrap_or, IfSome, MatchOption, Result, Ok, Err, IfErr, IfOk, slice_get}
+use Rattle.std.specs.Prelude.{◌≡◌, ◌≢◌, ℕ, ◌*◌, ◌<◌, ◌≤◌, ⊤, min, true, List, ◌++◌, map, length, take, replicate, Option, Some, None, is_some, IfSome, MatchOption, Result, Ok, Err, IfErr, IfOk, slice_get}
 use Rattle.std.specs.Option.{option_map}
 use Rattle.std.specs.List.{range_with_len}
 use Rattle.page_base.specs.Backings.{in_file}
 use Rattle.page_base.specs.Lanes.{Origin, Rose}
+use Rattle.page_base.specs.ListSeen.{ListSeen}
 use Rattle.file_store.specs.Parts.{Extent, striped, whole, PartName, PartSeen, reach, pieces_of}
-use Rattle.file_store.specs.Shelves.{File, Shelf, FolderSeen, file_at}
+use Rattle.file_store.specs.Shelves.{Shelf, FolderSeen, file_at}
 use Rattle.file_store.specs.declared.folder.Cut.{Cut}
 use Rattle.file_store.specs.declared.folder.FolderFault.{FolderFault}
 use Rattle.file_store.specs.declared.folder.FolderFault.TheVariants.{Missing, TooShort, Failed, OutOfMemory}
@@ -119,6 +120,10 @@ pub record IsOpened (told : Option Shelf) (name : PartName) (part : PartSeen) : 
 abbrev pub AreOpened : {P : Type 0} → (P → PartSeen) → Option Shelf → (path : List ℕ) → Cut → List P → Type 0
 AreOpened {P} seen told path cut parts =
     (s : ℕ) (part : P) → slice_get parts s ≡ Some part → IsOpened told (stripe_name path cut s) (seen part)
+
+-- what was opened is so, a part for each stripe
+abbrev pub OpensParts : {P E : Type 0} → (P → PartSeen) → FolderSeen → (path : List ℕ) → Cut → Result (ListSeen P) E → Type 0
+OpensParts seen folder path cut result = IfOk result (λ parts. AreOpened seen folder.told path cut parts.items)
 
 -- each of the parts has a file
 abbrev pub AreMade : {P : Type 0} → (P → PartSeen) → List P → Type 0

@@ -1,10 +1,14 @@
 -- What a folder in memory keeps of its files and of the parts that are out.
-use Rattle.std.specs.Prelude.{◌≡◌, ◌≢◌, ℕ, ◌≤◌, ◌<◌, Bool, true, false, List, [], map, length, slice_index_or, unwrap_or, Option}
+use Rattle.std.specs.Prelude.{◌≡◌, ◌≢◌, ℕ, ◌+◌, ◌≤◌, ◌<◌, Bool, true, false, List, [], ◌++◌, map, length, drop, slice_index_or, unwrap_or, Option, Some, Vec, vec_capacity}
 use Rattle.std.specs.List.{All}
 use Rattle.std.specs.Str.{bytes_eq}
-use Rattle.file_store.specs.Parts.{Extent, striped, whole, PartName, PartSeen, reach}
+use Rattle.file_store.specs.Parts.{Extent, striped, whole, PartName, PartSeen, WhereTold, reach}
 use Rattle.file_store.specs.Shelves.{File, file_at, PutsBack}
+use Rattle.file_store.specs.InsideFolders.{PutsStripe}
 use Rattle.file_store.specs.InsideMemParts.{name_of}
+use Rattle.file_store.specs.MemFiles.{files_in}
+use Rattle.file_store.specs.declared.folder.Cut.{Cut}
+use Rattle.file_store.specs.declared.mem_part.Shape.{Shape}
 use Rattle.file_store.specs.declared.files.MemFile.{MemFile}
 use Rattle.file_store.specs.declared.files.OutPart.{OutPart}
 
@@ -40,3 +44,25 @@ pub record PutsPart (part : PartSeen) (old new : List File) : Type 0 where
 -- the file at a path is as long as this
 abbrev pub HasLength : (size : ℕ) → Option (List ℕ) → Type 0
 HasLength size file = size ≤ length (unwrap_or file [])
+
+-- and as long as a part of this shape needs
+abbrev pub IsLongEnough : (path : List ℕ) → Shape → List MemFile → Type 0
+IsLongEnough path shape files = HasLength (needs (name_of path shape).extent) (file_at (files_in files) path)
+
+-- these bytes stand over the front of the file at a path, or are it where there was none
+abbrev pub PutsFront : (path bytes : List ℕ) → (old new : List MemFile) → Type 0
+PutsFront path bytes old new =
+    file_at (files_in new) path ≡ Some (bytes ++ drop (length bytes) (unwrap_or (file_at (files_in old) path) []))
+
+-- one stripe's pages of these bytes stand in the file at a path, where there is one
+abbrev pub PutsStripeAt : (path : List ℕ) → Cut → (stripe : ℕ) → (bytes : List ℕ) → (old new : List MemFile) → Type 0
+PutsStripeAt path cut stripe bytes old new =
+    WhereTold (PutsStripe path cut stripe bytes) (file_at (files_in old) path) (file_at (files_in new) path)
+
+-- all files but the one at a path are as before
+abbrev pub OthersStayAt : (path : List ℕ) → (old new : List MemFile) → Type 0
+OthersStayAt path old new = (q : List ℕ) → q ≢ path → file_at (files_in new) q ≡ file_at (files_in old) q
+
+-- the room for files is less by one at most
+abbrev pub TakesOneRoom : {Z : Type 0} → (old new : Vec MemFile Z) → Type 0
+TakesOneRoom old new = length new.items + vec_capacity old ≤ length old.items + 1 + vec_capacity new

@@ -1,5 +1,5 @@
 -- The files that a folder in memory is made of.
-use Rattle.std.specs.Prelude.{ℕ, List, [], map, Option, Some}
+use Rattle.std.specs.Prelude.{List, [], map, Option, Some}
 use Rattle.std.specs.Option.{option_map}
 use Rattle.file_store.specs.Shelves.{File, FolderSeen}
 use Rattle.file_store.specs.declared.files.MemFile.{MemFile}

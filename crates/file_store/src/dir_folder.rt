@@ -5,6 +5,7 @@ ghost use Rattle.std.specs.Prelude.{◌≡◌, ◌≤◌, None, length, IfOk, If
 use crate::dir_part::DirPart;
 use crate::folder::{Cut, Folder, FolderFault};
 use crate::mem_part::Shape;
+use page_base::laws::lists_by_place;
 use page_base::{Bytes, List};
 use std::alloc::Global;
 use std::fs::{File, OpenOptions};
@@ -180,6 +181,7 @@ impl<R: Files<File = File> + Clone + Drop> Folder for DirFolder<R> {
     }
 
     fn open_striped(&mut self, path: &Bytes, cut: &Cut) -> Result<List<DirPart<R>>, FolderFault> {
+        lists_by_place::<DirPart<R>>();
         let Ok(text) = text_of(path) else {
             return Err(self.fail());
         };

@@ -1,5 +1,4 @@
 //! What a folder in memory is made of: its files, and the calls that are to fail.
-ghost use Rattle.std.specs.Prelude.{◌≡◌};
 
 use crate::mem_part::Shape;
 use page_base::Bytes;

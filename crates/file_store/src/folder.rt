@@ -42,7 +42,7 @@ pub trait Folder {
     ghost use Rattle.file_store.specs.Shelves.{FolderSeen, any_out, Closes};
     ghost use Rattle.file_store.specs.Folders.{HasFolderCause, IsFailed, RefusesHead, RefusesNew, RefusesWhole, OfFile};
     ghost use Rattle.file_store.specs.Folders.{TellsLength, TellsHead, TellsMissing, TellsShort, WritesNew, OnlyFile};
-    ghost use Rattle.file_store.specs.Folders.{stripe_names, whole_name, need_of, AreOpened, AreMade, AreOut, IsOpenedWhole};
+    ghost use Rattle.file_store.specs.Folders.{stripe_names, whole_name, need_of, OpensParts, AreMade, AreOut, IsOpenedWhole};
 
     /// What contracts see of the folder.
     ghost seen: { Self → FolderSeen };
@@ -74,7 +74,7 @@ pub trait Folder {
     fn open_striped(&mut self, path: &Bytes, cut: &Cut) -> Result<List<Self::Part>, FolderFault>
         requires none_out { IfSome (seen self.old).told (λ s. any_out path.now.items s.out ≡ false) }
         ensures count { IfOk result (λ parts. length parts.items ≡ cut.now.layout.stripes) }
-        ensures parts { IfOk result (λ xs. AreOpened Self.Part.seen (seen self.old).told path.now.items cut.now xs.items) }
+        ensures parts { OpensParts Self.Part.seen (seen self.old) path.now.items cut.now result }
         ensures made { IfOk result (λ parts. AreMade Self.Part.seen parts.items) }
         ensures out { OnOk result (AreOut (stripe_names path.now.items cut.now) (seen self.old) (seen self.new)) }
         ensures err { OnErr result ((seen self.new).told ≡ (seen self.old).told) }

@@ -17,8 +17,6 @@ mod mem_folder;
 mod mem_part;
 mod part;
 mod shelf;
-#[cfg(test)]
-mod tests;
 
 pub use dir_folder::DirFolder;
 pub use dir_part::DirPart;

@@ -2,7 +2,7 @@
 //!
 //! Two invariants spare the closing of a part all memory and all refusals: each striped part that is out still finds its file
 //! long enough (`fit`), and there is room for a new file for each part that is out (`room`).
-ghost use Rattle.std.specs.Prelude.{◌≡◌, ◌≤◌, ◌+◌, [], length, Some, vec_len, vec_capacity};
+ghost use Rattle.std.specs.Prelude.{◌≡◌, ◌≤◌, ◌+◌, length, Some, vec_capacity};
 ghost use Rattle.file_store.specs.MemFiles.{files_in, made_of, told_files};
 ghost use Rattle.file_store.specs.InsideMemFolders.{out_in, AllFit};
 

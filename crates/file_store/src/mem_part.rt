@@ -1,8 +1,8 @@
 //! A part of a file in memory: a copy of the file's bytes as far as the part reaches, which is put back when it is closed.
-ghost use Rattle.std.specs.Prelude.{◌≡◌, ◌≤◌, ◌+◌, true, false, length, replicate, IfOk};
-ghost use Rattle.file_store.specs.Parts.{reach, IsRange, pieces_of};
+ghost use Rattle.std.specs.Prelude.{◌≡◌, ◌≤◌, ◌+◌, true, false, length, replicate};
+ghost use Rattle.file_store.specs.Parts.{reach};
 ghost use Rattle.file_store.specs.Shelves.{number_of};
-ghost use Rattle.file_store.specs.InsideMemParts.{extent_of, name_of};
+ghost use Rattle.file_store.specs.InsideMemParts.{extent_of};
 
 use crate::files::{FailingPart, PartCall};
 use crate::folder::Cut;
@@ -65,8 +65,7 @@ fn strikes(failing: &mut [Failing], call: PartCall) -> bool {
 
 impl MemPart {
     ghost use Rattle.page_base.specs.Lanes.{Rose};
-    ghost use Rattle.file_store.specs.Parts.{PartSeen};
-    ghost use Rattle.file_store.specs.InsideMemSeen.{mem_seen};
+    ghost use Rattle.file_store.specs.InsideMemSeen.{mem_seen, fresh_seen};
 
     pub(crate) fn new(
         path: Bytes,
@@ -77,7 +76,7 @@ impl MemPart {
     ) -> MemPart
         requires sized { length bytes.items ≡ reach (extent_of path.items shape) }
         requires zeros { made ≡ false → bytes.items ≡ replicate (reach (extent_of path.items shape)) 0 }
-        ensures { mem_seen result ≡ record { name = name_of path.items shape; made = made; told = pieces_of (extent_of path.items shape) bytes.items; count = 0 } }
+        ensures { mem_seen result ≡ fresh_seen path.items shape bytes.items made }
     {
         MemPart {
             path,

@@ -2,7 +2,7 @@
 //!
 //! What a part tells is a list of pieces: of a striped part one for each page of its region, of a whole part all its bytes.
 //! A part that tells nothing, as one of a real file, is bound by its count of faults and by what it is named.
-ghost use Rattle.std.specs.Prelude.{◌≡◌, ◌≤◌, ℕ, true, false, length, OnOk, OnErr, IfSome};
+ghost use Rattle.std.specs.Prelude.{◌≡◌, ℕ, true, false, length, OnOk, OnErr, IfSome};
 ghost use Rattle.page_base.specs.Lanes.{told_at};
 ghost use Rattle.store_trait.specs.Causes.{HasCause};
 ghost use Rattle.file_store.specs.Parts.{PartSeen, IsRange, piece_size, TellsRange, HasWritten, OthersStay, IsZeroed, IsNamed};

@@ -1,19 +1,17 @@
 //! The files of a folder in memory, and the parts of them that are out.
-ghost use Rattle.std.specs.Prelude.{◌≡◌, ◌≢◌, ◌<◌, ◌≤◌, ◌+◌, ◌*◌, ℕ, [], ◌++◌, true, false, length, map, IfSome, IfNone, IfOk, None, Some, unwrap_or, drop, replicate, MatchOption, ⊤, vec_len, vec_capacity, slice_get};
-ghost use Rattle.page_base.specs.Lanes.{told_at};
-ghost use Rattle.store_trait.specs.Memory.{told_by, page_of};
-ghost use Rattle.file_store.specs.Parts.{striped, pieces_of, WhereTold};
-ghost use Rattle.file_store.specs.Shelves.{file_at, PutsPages, without};
-ghost use Rattle.file_store.specs.Folders.{stripe_origin, stripe_names};
-ghost use Rattle.file_store.specs.InsideFolders.{stripe_seen, whole_seen};
+ghost use Rattle.std.specs.Prelude.{◌≡◌, ◌<◌, ◌≤◌, ◌+◌, ◌*◌, ◌++◌, true, false, length, IfSome, IfNone, IfOk, None, Some, drop, replicate, MatchOption, ⊤, vec_len, vec_capacity};
+ghost use Rattle.file_store.specs.Shelves.{file_at, without};
+ghost use Rattle.file_store.specs.Folders.{stripe_names};
+ghost use Rattle.file_store.specs.InsideFolders.{whole_seen, PutsStripe};
 ghost use Rattle.file_store.specs.InsideMemParts.{name_of};
-ghost use Rattle.file_store.specs.InsideMemSeen.{mem_seen};
+ghost use Rattle.file_store.specs.InsideMemSeen.{mem_seen, AreStripesOf};
 ghost use Rattle.file_store.specs.MemFiles.{files_in};
-ghost use Rattle.file_store.specs.InsideMemFolders.{out_in, IsFirstAt, HasLength, PutsPart, needs};
+ghost use Rattle.file_store.specs.InsideMemFolders.{out_in, IsFirstAt, HasLength, IsLongEnough, PutsPart, PutsFront, PutsStripeAt, OthersStayAt, TakesOneRoom};
 
 use crate::files::{FailingPart, MemFile, OutPart};
 use crate::folder::Cut;
 use crate::mem_part::{Failing, MemPart, Shape};
+use page_base::laws::lists_by_place;
 use page_base::{Bytes, Key, List, OutOfMemory};
 use std::alloc::Global;
 
@@ -45,7 +43,7 @@ pub(crate) fn bytes_of<'a>(files: &'a [MemFile], path: &[u8]) -> Option<&'a [u8]
 pub(crate) fn put_pages(file: &mut Bytes, bytes: &[u8], cut: &Cut, stripe: u32)
     requires file { cut.now.pages * cut.now.layout.page_size ≤ length file.old.items }
     requires bytes { length bytes.now ≡ cut.now.pages * cut.now.layout.page_size }
-    ensures { (path : _) → PutsPages (stripe_origin path cut.now stripe) (pieces_of (striped (stripe_origin path cut.now stripe)) bytes.now) file.old.items file.new.items }
+    ensures { (path : _) → PutsStripe path cut.now stripe bytes.now file.old.items file.new.items }
 {
     let size = cut.layout.page_size() as usize;
     for page in 0..cut.pages {
@@ -70,8 +68,9 @@ pub(crate) fn stripe_parts(
 ) -> Result<List<MemPart>, OutOfMemory>
     requires { length bytes.now ≡ cut.now.pages * cut.now.layout.page_size }
     ensures count { IfOk result (λ parts. length parts.items ≡ cut.now.layout.stripes) }
-    ensures parts { IfOk result (λ parts. (s : ℕ) (part : _) → slice_get parts.items s ≡ Some part → mem_seen part ≡ stripe_seen path.now cut.now s bytes.now) }
+    ensures parts { IfOk result (λ parts. AreStripesOf path.now cut.now bytes.now parts.items) }
 {
+    lists_by_place::<MemPart>();
     let stripes = cut.layout.stripes();
     let mut parts = List::new(alloc);
     parts.reserve(stripes as usize)?;
@@ -193,8 +192,8 @@ fn put_front(file: &mut Bytes, front: Bytes)
 /// Puts bytes over the front of the file of this path, which stands at `at`.
 fn put_over(files: &mut [MemFile], at: usize, path: &[u8], bytes: Bytes)
     requires { IsFirstAt path.now files.old at }
-    ensures here { file_at (files_in files.new) path.now ≡ Some (bytes.items ++ drop (length bytes.items) (unwrap_or (file_at (files_in files.old) path.now) [])) }
-    ensures elsewhere { (q : _) → q ≢ path.now → file_at (files_in files.new) q ≡ file_at (files_in files.old) q }
+    ensures here { PutsFront path.now bytes.items files.old files.new }
+    ensures elsewhere { OthersStayAt path.now files.old files.new }
 {
     put_front(&mut files[at].bytes, bytes);
 }
@@ -202,9 +201,9 @@ fn put_over(files: &mut [MemFile], at: usize, path: &[u8], bytes: Bytes)
 /// Puts the bytes of a whole part back, into a new file where there is none.
 fn put_whole(files: &mut Vec<MemFile>, path: Bytes, bytes: Bytes)
     requires { vec_len files.old < vec_capacity files.old }
-    ensures here { file_at (files_in files.new.items) path.items ≡ Some (bytes.items ++ drop (length bytes.items) (unwrap_or (file_at (files_in files.old.items) path.items) [])) }
-    ensures elsewhere { (q : _) → q ≢ path.items → file_at (files_in files.new.items) q ≡ file_at (files_in files.old.items) q }
-    ensures room { length files.new.items + vec_capacity files.old ≤ length files.old.items + 1 + vec_capacity files.new }
+    ensures here { PutsFront path.items bytes.items files.old.items files.new.items }
+    ensures elsewhere { OthersStayAt path.items files.old.items files.new.items }
+    ensures room { TakesOneRoom files.old files.new }
 {
     match find_file(files.as_slice(), path.as_slice()) {
         Some(at) => put_over(files.as_mut_slice(), at, path.as_slice(), bytes),
@@ -216,8 +215,8 @@ fn put_whole(files: &mut Vec<MemFile>, path: Bytes, bytes: Bytes)
 fn put_striped(files: &mut [MemFile], path: &[u8], bytes: &[u8], cut: &Cut, stripe: u32)
     requires file { HasLength (cut.now.pages * cut.now.layout.page_size) (file_at (files_in files.old) path.now) }
     requires bytes { length bytes.now ≡ cut.now.pages * cut.now.layout.page_size }
-    ensures here { WhereTold (PutsPages (stripe_origin path.now cut.now stripe) (pieces_of (striped (stripe_origin path.now cut.now stripe)) bytes.now)) (file_at (files_in files.old) path.now) (file_at (files_in files.new) path.now) }
-    ensures elsewhere { (q : _) → q ≢ path.now → file_at (files_in files.new) q ≡ file_at (files_in files.old) q }
+    ensures here { PutsStripeAt path.now cut.now stripe bytes.now files.old files.new }
+    ensures elsewhere { OthersStayAt path.now files.old files.new }
 {
     if let Some(at) = find_file(files, path) {
         put_pages(&mut files[at].bytes, bytes, cut, stripe);
@@ -226,10 +225,10 @@ fn put_striped(files: &mut [MemFile], path: &[u8], bytes: &[u8], cut: &Cut, stri
 
 /// Puts a part back into the file of its path. It takes no memory.
 pub(crate) fn put_back(files: &mut Vec<MemFile>, part: MemPart)
-    requires fits { HasLength (needs (name_of part.path.items part.shape).extent) (file_at (files_in files.old.items) part.path.items) }
+    requires fits { IsLongEnough part.path.items part.shape files.old.items }
     requires room { vec_len files.old < vec_capacity files.old }
     ensures back { PutsPart (mem_seen part) (files_in files.old.items) (files_in files.new.items) }
-    ensures room { length files.new.items + vec_capacity files.old ≤ length files.old.items + 1 + vec_capacity files.new }
+    ensures room { TakesOneRoom files.old files.new }
 {
     let MemPart {
         path,

@@ -1,4 +1,4 @@
-use Rattle.std.proofs.Common.{rules, ◌≡◌, ◌≢◌, ◌<◌, ◌≤◌, ◌+◌, ◌*◌, ◌-◌, ℕ, [], ◌∷◌, ◌++◌, true, false, List, length, map, IfSome, IfNone, IfOk, None, Some, vec_len, vec_capacity, slice_get, slice_index_or, refl, sym, ap, subst, ◌∙◌, arith, inl, inr, length-append}
+use Rattle.std.proofs.Common.{◌≡◌, ◌<◌, ℕ, false, slice_index_or}
 use Rattle.file_store.specs.InsideMemFolders.{is_at}
 use Rattle.file_store.specs.declared.files.MemFile.{MemFile}
 use Rattle.file_store.proofs.shelf.find_file.Given as goal

@@ -1,8 +1,6 @@
-use Rattle.std.proofs.Common.{rules, ◌≡◌, ◌≢◌, ◌<◌, ◌≤◌, ◌+◌, ◌*◌, ◌-◌, ℕ, [], ◌∷◌, ◌++◌, true, false, not, List, length, map, Option, Some, None, slice_get, slice_index_or, refl, sym, ap, subst, ◌∙◌, arith, inl, inr, length-append}
-use Rattle.page_base.specs.Lanes.{told_at}
+use Rattle.std.proofs.Common.{◌≤◌, ◌+◌, ◌*◌, ℕ, [], length, sym, subst, ◌∙◌, arith}
 use Rattle.store_trait.specs.Memory.{page_of, told_by}
 use Rattle.store_trait.specs.WholePages.{length-page_of}
-use Rattle.file_store.specs.Parts.{striped, pieces_of}
 use Rattle.file_store.specs.Shelves.{own_told}
 use Rattle.file_store.specs.Folders.{stripe_origin}
 use Rattle.file_store.proofs.PutPages.{PutsUpTo, put_own, put_other, put_all, own_page, other_page}

@@ -1,6 +1,5 @@
-use Rattle.std.proofs.Common.{rules, ◌≡◌, ◌≢◌, ◌<◌, ◌≤◌, ◌+◌, ◌*◌, ◌-◌, ℕ, [], ◌∷◌, ◌++◌, true, false, not, List, length, map, take, drop, Option, Some, None, slice_get, slice_index_or, refl, sym, ap, subst, ◌∙◌, arith, inl, inr, length-append}
+use Rattle.std.proofs.Common.{◌≡◌, ◌≤◌, ℕ, [], List, length, Option, Some, refl}
 use Rattle.file_store.proofs.FileLemmas.{first_at, written_here, written_elsewhere, where_told}
-use Rattle.file_store.specs.declared.files.MemFile.{MemFile}
 use Rattle.std.specs.Option.{unwrap_or}
 use Rattle.file_store.specs.MemFiles.{files_in}
 use Rattle.file_store.specs.Shelves.{file_at}

@@ -1,9 +1,7 @@
-use Rattle.std.proofs.Common.{rules, ◌≡◌, ◌≢◌, ◌<◌, ◌≤◌, ◌+◌, ◌*◌, ◌-◌, ℕ, [], ◌∷◌, ◌++◌, true, false, not, List, length, map, take, drop, Option, Some, None, slice_get, slice_index_or, refl, sym, ap, subst, ◌∙◌, arith, inl, inr, length-append}
-use Rattle.std.specs.Option.{unwrap_or}
+use Rattle.std.proofs.Common.{List, Some, refl, sym, ap, ◌∙◌}
 use Rattle.file_store.specs.declared.files.MemFile.{MemFile}
-use Rattle.file_store.specs.Shelves.{file_at, without}
+use Rattle.file_store.specs.Shelves.{file_at}
 use Rattle.file_store.specs.MemFiles.{files_in}
-use Rattle.file_store.specs.InsideMemFolders.{out_in, AllFit}
 use Rattle.file_store.proofs.FileLemmas.{push_here, push_other, at_its_path, not_at_other, new_front}
 use Rattle.file_store.proofs.shelf.put_whole.Goals as goal
 

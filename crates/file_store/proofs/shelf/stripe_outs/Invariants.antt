@@ -1,4 +1,4 @@
-use Rattle.std.proofs.Common.{rules, ◌≡◌, ◌≢◌, ◌<◌, ◌≤◌, ◌+◌, ◌*◌, ◌-◌, ℕ, [], ◌∷◌, ◌++◌, true, false, List, length, map, IfSome, IfNone, IfOk, None, Some, vec_len, vec_capacity, slice_get, slice_index_or, refl, sym, ap, subst, ◌∙◌, arith, inl, inr, length-append}
+use Rattle.std.proofs.Common.{◌≡◌, ◌≤◌, ◌+◌, map}
 use Rattle.std.specs.List.{range_with_len}
 use Rattle.file_store.specs.Folders.{stripe_name}
 use Rattle.file_store.specs.InsideMemFolders.{out_in}

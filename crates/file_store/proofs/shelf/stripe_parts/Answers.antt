@@ -1,7 +1,6 @@
-use Rattle.std.proofs.Common.{rules, ◌≡◌, ◌≢◌, ◌<◌, ◌≤◌, ◌+◌, ◌*◌, ◌-◌, ℕ, [], ◌∷◌, ◌++◌, true, false, not, List, length, map, Option, Some, None, slice_get, slice_index_or, refl, sym, ap, subst, ◌∙◌, arith, inl, inr, length-append}
+use Rattle.std.proofs.Common.{◌+◌, ℕ, List, length, sym, ap, ◌∙◌, arith, inl, inr, length-append}
 use Rattle.file_store.specs.InsideFolders.{stripe_seen}
 use Rattle.file_store.specs.InsideMemSeen.{mem_seen}
-use Rattle.file_store.proofs.Rows.{slice_get-push_cases}
 use Rattle.file_store.proofs.shelf.stripe_parts.Goals as goal
 
 pub loop-stripe-preserved : goal.loop-stripe-preserved
@@ -11,7 +10,7 @@ loop-stripe-preserved c =
     record {
       room = omega arith;
       count = ap length c.put.ensures.items ∙ length-append c.loop-stripe.parts.items _ ∙ ap (λ (n : ℕ). n + 1) i.count;
-      each = λ s part got. elim (slice_get-push_cases c.loop-stripe.parts.items _ part s (rw c.put.ensures.items at got)) [
+      each = λ s part got. elim (c.lists_by_place.ensures.grown c.loop-stripe.parts.items _ part s (rw c.put.ensures.items at got)) [
         | inl old ↦ i.each s part old
         | inr last ↦ ap mem_seen last.1 ∙ c.new.ensures ∙ ap (λ (p : List ℕ). stripe_seen p cut c.loop-stripe.stripe c.in_ok-own.own.items) c.in_ok-own_path.ensures.items ∙ ap (λ (b : List ℕ). stripe_seen c.args.path.now cut c.loop-stripe.stripe b) c.in_ok-own.ensures.items ∙ ap (λ (k : ℕ). stripe_seen c.args.path.now cut k c.args.bytes.now) (sym (last.0 ∙ i.count))
       ];

@@ -1,5 +1,4 @@
-use Rattle.std.proofs.Common.{rules, ◌≡◌, ◌≢◌, ◌<◌, ◌≤◌, ◌+◌, ◌*◌, ◌-◌, ℕ, [], ◌∷◌, ◌++◌, true, false, List, length, map, IfSome, IfNone, IfOk, None, Some, vec_len, vec_capacity, slice_get, slice_index_or, refl, sym, ap, subst, ◌∙◌, arith, inl, inr, length-append}
-use Rattle.file_store.specs.Parts.{striped, pieces_of}
+use Rattle.std.proofs.Common.{◌≡◌, ◌≤◌, ◌+◌, ℕ, length, Some, slice_get}
 use Rattle.file_store.specs.InsideFolders.{stripe_seen}
 use Rattle.file_store.specs.InsideMemSeen.{mem_seen}
 use Rattle.file_store.proofs.shelf.stripe_parts.Given as goal

@@ -1,5 +1,4 @@
-use Rattle.std.proofs.Common.{rules, ◌≡◌, ◌≢◌, ◌<◌, ◌≤◌, ◌+◌, ◌*◌, ◌-◌, ℕ, [], ◌∷◌, ◌++◌, true, false, List, length, map, IfSome, IfNone, IfOk, None, Some, vec_len, vec_capacity, slice_get, slice_index_or, refl, sym, ap, subst, ◌∙◌, arith, inl, inr, length-append}
-use Rattle.std.specs.List.{filter}
+use Rattle.std.proofs.Common.{rules, ap, ◌∙◌}
 use Rattle.std.proofs.Common.{not}
 use Rattle.std.proofs.lemmas.Fn.{filter_same}
 use Rattle.file_store.specs.Shelves.{same_part}

@@ -1,5 +1,4 @@
-use Rattle.std.proofs.Common.{◌≡◌, ◌+◌, ◌∷◌, [], ◌++◌, ℕ, length, ap, sym, ◌∙◌, arith, inl, inr, length-append}
-use Rattle.file_store.proofs.Rows.{slice_get-push_cases}
+use Rattle.std.proofs.Common.{◌+◌, ◌∷◌, [], ℕ, length, ap, ◌∙◌, arith, inl, inr, length-append}
 use Rattle.file_store.proofs.dir_folder.DirFolderFolder.open_striped.Goals as goal
 
 pub loop-stripe-preserved : goal.loop-stripe-preserved
@@ -10,7 +9,7 @@ loop-stripe-preserved g c =
     record {
       room = omega arith;
       count = ap length c.put.ensures.items ∙ length-append c.loop-stripe.parts.items (it ∷ []) ∙ ap (λ (n : ℕ). n + 1) i.count;
-      each = λ s part got. elim (slice_get-push_cases c.loop-stripe.parts.items it part s (rw c.put.ensures.items at got)) [
+      each = λ s part got. elim (c.lists_by_place.ensures.grown c.loop-stripe.parts.items it part s (rw c.put.ensures.items at got)) [
         | inl old ↦ i.each s part old
         | inr last ↦ rw (last.0, last.1, i.count) (record { path_is = new.path_is ∙ c.in-Ok.ensures.same; shape_is = new.shape_is; made_is = new.made_is; unfailed = new.unfailed })
       ];

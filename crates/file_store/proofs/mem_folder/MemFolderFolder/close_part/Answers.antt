@@ -1,9 +1,8 @@
-use Rattle.std.proofs.Common.{rules, ◌≡◌, ◌≢◌, ◌<◌, ◌≤◌, ◌+◌, ◌*◌, ◌-◌, ℕ, [], ◌∷◌, ◌++◌, true, false, not, List, length, map, take, drop, Option, Some, None, slice_get, slice_index_or, refl, sym, ap, subst, ◌∙◌, arith, inl, inr, length-append}
+use Rattle.std.proofs.Common.{◌≤◌, [], not, length}
 use Rattle.std.specs.Option.{unwrap_or}
-use Rattle.file_store.specs.declared.files.MemFile.{MemFile}
 use Rattle.file_store.specs.Shelves.{file_at, without}
 use Rattle.file_store.specs.MemFiles.{files_in}
-use Rattle.file_store.specs.InsideMemFolders.{out_in, AllFit}
+use Rattle.file_store.specs.InsideMemFolders.{out_in}
 use Rattle.std.proofs.lemmas.List.Elements.{All-filter}
 use Rattle.file_store.specs.Parts.{PartName}
 use Rattle.file_store.specs.Shelves.{same_part}

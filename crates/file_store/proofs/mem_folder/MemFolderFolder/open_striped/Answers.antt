@@ -1,9 +1,6 @@
-use Rattle.std.proofs.Common.{rules, ◌≡◌, ◌≢◌, ◌<◌, ◌≤◌, ◌+◌, ◌*◌, ◌-◌, ℕ, [], ◌∷◌, ◌++◌, true, false, not, List, length, map, take, drop, Option, Some, None, slice_get, slice_index_or, refl, sym, ap, subst, ◌∙◌, arith, inl, inr, length-append}
-use Rattle.std.specs.Option.{unwrap_or}
-use Rattle.file_store.specs.declared.files.MemFile.{MemFile}
-use Rattle.file_store.specs.Shelves.{file_at, without}
+use Rattle.std.proofs.Common.{◌≡◌, ◌*◌, ℕ, List, take, ap, ◌∙◌}
 use Rattle.file_store.specs.MemFiles.{files_in}
-use Rattle.file_store.specs.InsideMemFolders.{out_in, AllFit}
+use Rattle.file_store.specs.InsideMemFolders.{out_in}
 use Rattle.file_store.specs.Parts.{PartSeen}
 use Rattle.file_store.specs.InsideFolders.{stripe_seen}
 use Rattle.file_store.specs.InsideMemSeen.{mem_seen}

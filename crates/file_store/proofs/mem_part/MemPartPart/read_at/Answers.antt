@@ -1,8 +1,6 @@
-use Rattle.std.proofs.Common.{rules, ◌≡◌, ◌≤◌, ◌+◌, ◌-◌, length, take, drop, ℕ, List, refl, sym, ap, ◌∙◌, arith}
-use Rattle.std.proofs.Math.Nat.{add-sub_cancel_left}
-use Rattle.file_store.specs.Parts.{reach}
-use Rattle.file_store.specs.InsideMemParts.{extent_of, name_of}
-use Rattle.file_store.proofs.PartRanges.{range_inside, copied, range_written, range_differs, zeroed}
+use Rattle.std.proofs.Common.{◌+◌, ◌-◌, length, take, drop, ℕ, List, ap, ◌∙◌}
+use Rattle.file_store.specs.InsideMemParts.{extent_of}
+use Rattle.file_store.proofs.PartRanges.{copied}
 use Rattle.file_store.proofs.mem_part.MemPartPart.read_at.Goals as goal
 
 pub returns-clause-bytes : goal.returns-clause-bytes
