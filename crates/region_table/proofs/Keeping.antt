@@ -9,6 +9,7 @@ use Rattle.std.specs.List.{list_any}
 use Rattle.std.specs.Str.{bytes_eq}
 use Rattle.page_base.specs.Backings.{in_files}
 use Rattle.page_base.specs.declared.keys.RegionShape.{RegionShape}
+use Rattle.region_table.specs.declared.region.TheConstants.{MOST_FILES}
 use Rattle.region_table.specs.declared.spec.RegionFault.{RegionFault}
 use Rattle.region_table.specs.Regions.{RegionSeen, TableSeen, shape_of, page_count}
 use Rattle.region_table.specs.Rules.{has_good_length, has_whole_files, is_whole, shares_store, region_fault, keeps_rules}
@@ -80,9 +81,9 @@ pub pages_of_file : (page_size : ℕ) (r : RegionSeen) (path : List ℕ) (file :
 unfolding has_good_length
 pages_of_file page_size r path file sized good is =
     let parts = both (is_whole page_size r.size) (has_whole_files page_size r.size r.backing) good in
-    let files = both (is_whole page_size file) (r.size % file == 0 && nat_le (r.size / file) 4096) (subst (λ b. has_whole_files page_size r.size b ≡ true) is parts.1) in
+    let files = both (is_whole page_size file) (r.size % file == 0 && nat_le (r.size / file) MOST_FILES) (subst (λ b. has_whole_files page_size r.size b ≡ true) is parts.1) in
     let own = both (nat_lt 0 file) (file % page_size == 0) files.0 in
-    let fits = both (r.size % file == 0) (nat_le (r.size / file) 4096) files.1 in
+    let fits = both (r.size % file == 0) (nat_le (r.size / file) MOST_FILES) files.1 in
     let long = both (nat_lt 0 r.size) (r.size % page_size == 0) parts.0 in
     let unit = whole_some page_size file (ltb-true 0 file own.0) (eqb-true (file % page_size) 0 own.1) in
     let inside = whole_some file r.size (ltb-true 0 r.size long.0) (eqb-true (r.size % file) 0 fits.0) in

@@ -15,5 +15,6 @@ mod tests;
 
 pub use page_base::Piece;
 pub use pieces::Pieces;
+pub use region::MOST_FILES;
 pub use spec::{Kind, RegionFault, RegionSpec};
 pub use table::RegionTable;

@@ -1,8 +1,9 @@
 //! One region of the table, and the rules that it is tested by.
-ghost use Rattle.std.specs.Prelude.{◌≡◌, ◌<◌, ◌≤◌, ◌/◌, true, IfOk, IfSome, ◌++◌, ◌∷◌, [], length, nat_eq};
+ghost use Rattle.std.specs.Prelude.{◌≡◌, ◌<◌, ◌≤◌, ◌/◌, true, IfOk, IfSome, ◌++◌, length, nat_eq, codes};
 ghost use Rattle.std.specs.List.{list_any, position, starts_with};
 ghost use Rattle.std.specs.Option.{option_copied};
 ghost use Rattle.std.specs.Str.{bytes_eq};
+ghost use Rattle.page_base.specs.declared.limits.TheConstants.{MOST_PAGES};
 ghost use Rattle.region_table.specs.Regions.{seen_of, backing_of, group_of, shape_of};
 ghost use Rattle.region_table.specs.Rules.{path_of, leads_into, shares_store, is_whole, has_good_length};
 
@@ -11,8 +12,8 @@ use page_base::{Bytes, OutOfMemory, RegionShape};
 use std::alloc::Global;
 use std::marker::Model;
 
-/// The most files that one store may have.
-const MOST_FILES: u64 = 4096;
+/// The most files that a region in files may have.
+pub const MOST_FILES: u64 = 4096;
 
 /// A region that was added. Contracts see what was asked for, whatever room its bytes have.
 #[derive(Debug, Drop)]
@@ -21,6 +22,7 @@ pub(crate) struct Region {
 }
 
 impl Model for Region {
+    ghost use Rattle.page_base.specs.declared.limits.TheConstants.{MOST_PAGES};
     ghost use Rattle.region_table.specs.Regions.{RegionSeen, seen_of};
 
     ghost Value = { RegionSeen };
@@ -72,7 +74,7 @@ impl Region {
     pub(crate) fn shape(&self, page_size: u32) -> RegionShape
         requires good { has_good_length page_size self.now ≡ true }
         requires sized { 1 ≤ page_size }
-        requires few { self.now.size / page_size ≤ 1048576 }
+        requires few { self.now.size / page_size ≤ MOST_PAGES }
         ensures shape { result ≡ shape_of page_size self.now }
         ensures group { 1 ≤ result.group }
         ensures pages { 1 ≤ result.pages }
@@ -88,7 +90,7 @@ impl Region {
     fn group(&self, page_size: u32) -> u32
         requires good { has_good_length page_size self.now ≡ true }
         requires sized { 1 ≤ page_size }
-        requires few { self.now.size / page_size ≤ 1048576 }
+        requires few { self.now.size / page_size ≤ MOST_PAGES }
         ensures group { result ≡ group_of page_size self.now.backing }
         ensures some { 1 ≤ result }
     {
@@ -160,7 +162,7 @@ fn leads_into(kind: &Kind, path: &[u8]) -> bool
 }
 
 fn is_below(folder: &[u8], path: &[u8]) -> bool
-    ensures { result ≡ starts_with nat_eq path.now (folder.now ++ 47 ∷ []) }
+    ensures { result ≡ starts_with nat_eq path.now (folder.now ++ codes "/") }
 {
     path.starts_with(folder) && path[folder.len()..].starts_with(b"/")
 }

@@ -34,7 +34,7 @@ pub enum RegionFault {
     /// The length, or that of one file, isn't made of whole pages, or the files don't fit the length.
     #[error("bad length")]
     BadLength,
-    /// All regions together would have `pages` pages, which is above 1048576.
+    /// All regions together would have `pages` pages, which is above `MOST_PAGES`.
     #[error("too many pages")]
     TooManyPages { pages: u64 },
     #[error("out of memory")]

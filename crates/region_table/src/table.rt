@@ -1,6 +1,6 @@
 //! The table of regions.
 //!
-//! The room of 64 regions is taken once, so that adding one takes memory for its name and path alone. `pages` is the
+//! The room of all regions that a table may have is taken once, so that adding one takes memory for its name and path alone. `pages` is the
 //! pages of all regions together, and no region breaks a rule behind those before it.
 ghost use Rattle.std.specs.Prelude.{◌≡◌, ◌<◌, ◌≤◌, ◌+◌, ◌/◌, true, [], length, slice_get, slice_index, Some, None, IfOk, OnOk, OnErr, IfErr};
 ghost use Rattle.page_base.specs.Layouts.{is_page_size};
@@ -13,15 +13,9 @@ ghost use Rattle.region_table.specs.InsideRules.{CountsWith};
 use crate::pieces::Pieces;
 use crate::region::{Region, has_good_length, has_name, has_store, place_of_name};
 use crate::spec::{RegionFault, RegionSpec};
-use page_base::{List, OutOfMemory, RegionShape};
+use page_base::{List, MOST_PAGES, MOST_REGIONS, OutOfMemory, RegionShape};
 use std::alloc::Global;
 use std::marker::Model;
-
-/// The most regions of a table.
-const MOST_REGIONS: usize = 64;
-
-/// The most pages that all regions have together.
-const MOST_PAGES: u64 = 1_048_576;
 
 /// Regions by their numbers, which count from 0 in the order of adding.
 #[derive(Debug, Drop)]
@@ -32,15 +26,14 @@ pub struct RegionTable {
 }
 
 impl Model for RegionTable {
-    ghost use Rattle.std.specs.Prelude.{◌≡◌, ◌≤◌, ◌+◌, true, [], length};
-    ghost use Rattle.region_table.specs.Regions.{TableSeen, page_count};
-    ghost use Rattle.region_table.specs.Rules.{keeps_rules};
+    ghost use Rattle.region_table.specs.Regions.{TableSeen};
+    ghost use Rattle.region_table.specs.InsideRules.{KeepsTable};
 
     ghost Value = { TableSeen };
 
     ghost view = { λ t. record { page_size = t.page_size; regions = t.regions.items } };
 
-    ghost invariant = { λ t. (64 ≤ t.page_size) × (t.pages ≤ 1048576) × (t.pages ≡ page_count (record { page_size = t.page_size; regions = t.regions.items })) × (length t.regions.items ≤ 64) × (64 ≤ length t.regions.items + t.regions.spare) × (keeps_rules t.page_size [] t.regions.items ≡ true) };
+    ghost invariant = { λ t. KeepsTable (record { page_size = t.page_size; regions = t.regions.items }) t.pages t.regions.spare };
 }
 
 impl RegionTable {
@@ -61,7 +54,7 @@ impl RegionTable {
 
     /// Adds a region, and answers its number. The rules are tested in the order of `RegionFault`'s variants.
     pub fn add(&mut self, spec: &RegionSpec) -> Result<u16, RegionFault>
-        requires { length self.old.regions < 64 }
+        requires { length self.old.regions < MOST_REGIONS }
         ensures number { IfOk result (λ n. n ≡ length self.old.regions) }
         ensures added { OnOk result (self.new ≡ with_region self.old (seen_of spec.now)) }
         ensures accepted { OnOk result (region_fault self.old (seen_of spec.now) ≡ None) }
@@ -111,8 +104,8 @@ impl RegionTable {
     /// The number of regions. No region of a table breaks a rule behind those before it.
     pub fn count(&self) -> u16
         ensures count { result ≡ length self.now.regions }
-        ensures few { result ≤ 64 }
-        ensures few_of_all { page_count self.now ≤ 1048576 }
+        ensures few { result ≤ MOST_REGIONS }
+        ensures few_of_all { page_count self.now ≤ MOST_PAGES }
         ensures rules { keeps_rules self.now.page_size [] self.now.regions ≡ true }
     {
         self.regions.len() as u16
@@ -132,8 +125,8 @@ impl RegionTable {
         ensures shape { slice_get (shapes_of self.now) region ≡ Some result }
         ensures group { 1 ≤ result.group }
         ensures some { 1 ≤ result.pages }
-        ensures few { result.pages ≤ 1048576 }
-        ensures few_of_all { page_count self.now ≤ 1048576 }
+        ensures few { result.pages ≤ MOST_PAGES }
+        ensures few_of_all { page_count self.now ≤ MOST_PAGES }
     {
         self.regions.get(region as usize).shape(self.page_size)
     }
