@@ -1,14 +1,14 @@
 -- The first bad line of a text, by the grammar.
-use Rattle.std.proofs.Common.{◌≡◌, ◌≢◌, ℕ, zero, suc, ◌+◌, ◌<◌, ◌≤◌, Bool, true, false, cond, nat_le, ◌⊎◌, inl, inr, List, [], ◌∷◌, ◌++◌, length, Option, Some, Result, Ok, Err, refl, sym, ap, ◌∙◌, subst, arith, append_assoc, length-append, append-nil}
+use Rattle.std.proofs.Common.{◌≡◌, ◌≢◌, ℕ, zero, suc, ◌+◌, ◌<◌, ◌≤◌, Bool, true, false, cond, nat_le, ◌⊎◌, inl, inr, List, [], ◌∷◌, ◌++◌, length, Some, Result, Ok, Err, refl, sym, ap, ◌∙◌, subst, arith, append_assoc, length-append, append-nil}
 use Rattle.std.specs.List.{All, join_with_byte, slice_split}
-use Rattle.std.proofs.lemmas.Bool.{both_ways, cases_Bool, leb-false, leb-true}
+use Rattle.std.proofs.lemmas.Bool.{leb-false, leb-true}
 use Rattle.std.proofs.lemmas.List.Splits.{join_with_byte-slice_split}
 use Rattle.workload_text.specs.Line.{Line, TextLine, says, silent}
 use Rattle.workload_text.specs.Grammar.{Said, nothing, after_text, shown, spelled, is_silent, AllowedText, AllAllowed, IsText}
 use Rattle.workload_text.specs.Reading.{is_empty, is_space, is_line_feed, read_line, read_text_line, ◌>>=◌}
 use Rattle.workload_text.specs.Refusals.{RefusedAt, refusal, read_texts, read_text, line_then, before_all}
 use Rattle.workload_text.specs.Kinds.{AppliesTo, Applies, place, IsFirstKind}
-use Rattle.workload_text.specs.FirstBad.{said_behind, BeginsNoText, IsBad, IsFirstBad, IsTooLong, RefusedRightly, AreFree}
+use Rattle.workload_text.specs.FirstBad.{said_behind, BeginsNoText, IsBad, IsFirstBad, RefusedRightly, AreFree}
 use Rattle.workload_text.specs.declared.refusal.TextKind.{TextKind}
 use Rattle.workload_text.specs.declared.refusal.TextKind.TheVariants as kind
 use Rattle.workload_text.proofs.Names.{AllNamed, still_named}

@@ -1,18 +1,17 @@
 -- The kind that the reading of a line's fields names is the first that applies to them; and where it names none, none applies.
-use Rattle.std.proofs.Common.{◌≡◌, ◌≢◌, ℕ, zero, suc, ◌+◌, ◌<◌, ◌≤◌, ◌^◌, ◌⊎◌, inl, inr, Bool, true, false, cond, not, ◌||◌, ◌&&◌, nat_le, nat_lt, List, [], ◌∷◌, length, drop, get_or, Option, Some, None, Result, Ok, Err, codes, refl, sym, ap, ◌∙◌, subst, arith, is_some}
+use Rattle.std.proofs.Common.{◌≡◌, ◌≢◌, ℕ, ◌+◌, ◌<◌, ◌≤◌, ◌^◌, inl, inr, Bool, true, false, cond, not, ◌||◌, ◌&&◌, nat_le, nat_lt, List, [], ◌∷◌, length, drop, get_or, Option, Some, None, Result, Ok, Err, codes, refl, sym, ap, ◌∙◌, subst, arith, is_some}
 use Rattle.std.specs.Option.{IsSomeAnd}
 use Rattle.std.specs.Fmt.{decimal}
 use Rattle.std.specs.Str.{bytes_eq}
 use Rattle.std.specs.Str.Parse.{digits_value}
-use Rattle.std.specs.List.{list_any, Contains}
-use Rattle.std.proofs.lemmas.Bool.{cases_Bool, cases_eq, and_parts, both_ways, eqb-false, leb-true, leb-false, ltb-true, ltb-false, not-true, not-false, or_parts}
+use Rattle.std.specs.List.{list_any}
+use Rattle.std.proofs.lemmas.Bool.{cases_Bool, cases_eq, and_parts, both_ways, eqb-false, leb-true, leb-false, ltb-true, ltb-false, not-true, not-false}
 use Rattle.std.proofs.lemmas.Fmt.{decimal_is_IsNumeral}
 use Rattle.std.proofs.lemmas.Slice.Eq.{bytes_eq-Decides}
-use Rattle.hex.specs.Hex.{encode_lower}
 use Rattle.workload_text.specs.Line.{Line}
-use Rattle.workload_text.specs.Grammar.{Said, is_name, is_path, mode_text, region_of, size_at, writable_at}
+use Rattle.workload_text.specs.Grammar.{Said, is_name, is_path, region_of, size_at, writable_at}
 use Rattle.workload_text.specs.Reading.{number_of, bytes_of, mode_of, or_refused, is_empty, one_of, two_of, three_of, four_of, as_region, read_memory, read_file, read_sparse, read_map, read_script, read_load, read_store, read_prefetch, read_flush, read_unmap, read_word, read_fields, ◌>>=◌}
-use Rattle.workload_text.specs.Kinds.{Sort, a_name, a_path, a_number, hex_bytes, a_mode, a_store, IsNumber, IsHex, is_store_kind, IsSpelt, kind_of, FirstMisspelt, forms, map_forms, sorts_by, field_at, begins_with, is_map, is_command, names_region, names_length, sorts_of, NamesRange, IsFormless, empty_field, unknown_word, short_map, other_number, IsMisplaced, late_map, early_command, IsMisspelt, IsTooMany, regions, scripts, commands, loads, AppliesTo, place}
+use Rattle.workload_text.specs.Kinds.{Sort, a_name, a_path, a_number, hex_bytes, a_mode, a_store, IsNumber, IsHex, is_store_kind, IsSpelt, FirstMisspelt, forms, map_forms, sorts_by, field_at, begins_with, is_map, is_command, names_region, names_length, sorts_of, NamesRange, IsFormless, empty_field, unknown_word, short_map, other_number, late_map, early_command, IsMisspelt, regions, scripts, commands, loads, AppliesTo, place}
 use Rattle.workload_text.specs.declared.refusal.TextKind.{TextKind}
 use Rattle.workload_text.specs.declared.refusal.TextKind.TheVariants as kind
 use Rattle.workload_text.proofs.Numbers.{number_of-decimal, number_of-Some}

@@ -2,6 +2,8 @@
 -- the grammar carries: for those who run workloads.
 use Rattle.std.specs.Prelude.{◌≡◌, ℕ, ◌+◌, ◌<◌, ◌≤◌, true, List, [], ◌∷◌, length, All}
 use Rattle.page_base.specs.Backings.{Backing}
+use Rattle.page_base.specs.declared.limits.TheConstants.{MOST_REGIONS}
+use Rattle.workload_text.specs.declared.limits.TheConstants.{MOST_NAME_BYTES, MOST_SCRIPTS, MOST_COMMANDS, MOST_ACCESS_BYTES, MOST_LOADED_BYTES}
 use Rattle.workload_text.specs.Line.{Line, map_line, script_line, load_line, store_line, prefetch_line, flush_line, unmap_line}
 use Rattle.workload_text.specs.Grammar.{Region, size_at, writable_at, most_size}
 
@@ -32,7 +34,7 @@ loaded_bytes (l ∷ ls) = loaded_bytes ls
 pub record LiesInside (regions : List Region) (r off len : ℕ) : Type 0 where
   pub known : r < length regions
   pub inside : off + len ≤ size_at regions r
-  pub short : len ≤ 65536
+  pub short : len ≤ MOST_ACCESS_BYTES
 
 -- a store lies inside a writable region and has at least one byte
 pub record StoresInside (regions : List Region) (r off : ℕ) (bytes : List ℕ) : Type 0 where
@@ -54,7 +56,7 @@ pub record IsSize (backing : Backing) (size : ℕ) : Type 0 where
 -- what one line is good for, among these regions
 abbrev pub Fits : List Region → Line → Type 0
 Fits regions (map_line name backing size writable) = IsSize backing size
-Fits regions (script_line name) = length name ≤ 32
+Fits regions (script_line name) = length name ≤ MOST_NAME_BYTES
 Fits regions (load_line r off len) = LiesInside regions r off len
 Fits regions (store_line r off bytes) = StoresInside regions r off bytes
 Fits regions (prefetch_line r off len) = HintsInside regions r off len
@@ -68,7 +70,7 @@ AllFit regions (l ∷ ls) = Fits regions l × AllFit regions ls
 -- the lines can be run: every command fits its region, and the limits hold
 pub record IsRunnable (lines : List Line) : Type 0 where
   pub fit : AllFit (regions_of lines) lines
-  pub regions : length (regions_of lines) ≤ 64
-  pub scripts : script_count lines ≤ 64
-  pub commands : command_count lines ≤ 262144
-  pub loaded : loaded_bytes lines ≤ 33554432
+  pub regions : length (regions_of lines) ≤ MOST_REGIONS
+  pub scripts : script_count lines ≤ MOST_SCRIPTS
+  pub commands : command_count lines ≤ MOST_COMMANDS
+  pub loaded : loaded_bytes lines ≤ MOST_LOADED_BYTES

@@ -1,6 +1,8 @@
 -- Where a text that is no workload goes wrong, by the grammar alone: the first line with which no accepted text begins,
 -- and why.
 use Rattle.std.specs.Prelude.{◌≡◌, ◌≢◌, ℕ, ◌+◌, ◌<◌, ◌≤◌, Bool, true, false, List, [], ◌∷◌, ◌++◌, length, All, zero, suc, Some}
+use Prim.Native.Char.{code}
+use Rattle.workload_text.specs.declared.limits.TheConstants.{MOST_TEXT_BYTES}
 use Rattle.workload_text.specs.Line.{TextLine}
 use Rattle.workload_text.specs.Grammar.{Said, nothing, after_text, shown, IsText}
 use Rattle.workload_text.specs.Refusals.{RefusedAt, refusal}
@@ -20,13 +22,13 @@ BeginsNoText begun = (bytes more : List ℕ) (texts : List TextLine) → IsText 
 -- behind a line stands its line feed, and no accepted text begins with what stands in front of it and it; or the line
 -- ends the text without one
 abbrev pub IsBad : (ended : Bool) → (front line behind : List ℕ) → Type 0
-IsBad true front line behind = ((more : List ℕ) × (behind ≡ 10 ∷ more)) × BeginsNoText (front ++ (line ++ 10 ∷ []))
+IsBad true front line behind = ((more : List ℕ) × (behind ≡ code "\n" ∷ more)) × BeginsNoText (front ++ (line ++ code "\n" ∷ []))
 IsBad false front line behind = (line ≢ []) × (behind ≡ [])
 
 -- Line n, counted from 1, is the first bad one, and this is the first kind that applies to it: what stands in front of
 -- it is itself an accepted text
 pub record IsFirstBad (bytes : List ℕ) (n : ℕ) (k : TextKind) : Type 0 where
-  pub short : length bytes ≤ 16777216
+  pub short : length bytes ≤ MOST_TEXT_BYTES
   pub before : List TextLine
   pub front : List ℕ
   pub line : List ℕ
@@ -35,13 +37,13 @@ pub record IsFirstBad (bytes : List ℕ) (n : ℕ) (k : TextKind) : Type 0 where
   pub bytes_are : bytes ≡ front ++ (line ++ behind)
   pub accepted : IsText front before
   pub number : n ≡ length before + 1
-  pub one_line : All (λ b. b ≢ 10) line
+  pub one_line : All (λ b. b ≢ code "\n") line
   pub bad : IsBad ended front line behind
   pub why : IsFirstKind k (said_behind nothing before) line ended
 
 -- a text is refused as a whole for its length alone
 pub record IsTooLong (bytes : List ℕ) (k : TextKind) : Type 0 where
-  pub long : 16777216 < length bytes
+  pub long : MOST_TEXT_BYTES < length bytes
   pub kind_is : k ≡ kind.Long
 
 -- a refusal of line n names the first bad line with its first kind, and one of line 0 a text that is too long

@@ -6,6 +6,9 @@ use Rattle.std.specs.Str.{bytes_eq}
 use Rattle.std.specs.List.{list_all, join_with_byte, slice_split}
 use Rattle.hex.specs.Hex.{encode_lower}
 use Rattle.page_base.specs.Backings.{Backing, in_memory, in_file, in_files}
+use Prim.Native.Char.{code}
+use Rattle.page_base.specs.declared.limits.TheConstants.{MOST_REGIONS}
+use Rattle.workload_text.specs.declared.limits.TheConstants.{MOST_TEXT_BYTES, MOST_NAME_BYTES, MOST_PATH_BYTES, MOST_MEMORY_BYTES, MOST_STORED_BYTES, MOST_SCRIPTS, MOST_COMMANDS, MOST_ACCESS_BYTES, MOST_LOADED_BYTES}
 use Rattle.workload_text.specs.Line.{Line, TextLine, says, silent, map_line, script_line, load_line, store_line, prefetch_line, flush_line, unmap_line}
 
 -- a region, as the lines after its own know it
@@ -34,26 +37,26 @@ after s l = record s { commands = s.commands + 1 }
 
 -- a letter, a digit or `_`
 abbrev pub is_name_byte : ℕ → Bool
-is_name_byte c = (nat_le 65 c && nat_le c 90) || ((nat_le 97 c && nat_le c 122) || ((nat_le 48 c && nat_le c 57) || (c == 95)))
+is_name_byte c = (nat_le (code "A") c && nat_le c (code "Z")) || ((nat_le (code "a") c && nat_le c (code "z")) || ((nat_le (code "0") c && nat_le c (code "9")) || (c == code "_")))
 
--- 1 to 32 such bytes
+-- 1 to `MOST_NAME_BYTES` such bytes
 abbrev pub is_name : List ℕ → Bool
-is_name name = nat_le 1 (length name) && (nat_le (length name) 32 && list_all is_name_byte name)
+is_name name = nat_le 1 (length name) && (nat_le (length name) MOST_NAME_BYTES && list_all is_name_byte name)
 
 -- a byte of a name, `.` or `-`
 abbrev pub is_path_byte : ℕ → Bool
-is_path_byte c = is_name_byte c || (c == 46 || c == 45)
+is_path_byte c = is_name_byte c || (c == code "." || c == code "-")
 
 -- such bytes, at least one, and neither `.` nor `..`
 abbrev pub is_component : List ℕ → Bool
 is_component c = nat_le 1 (length c) && (list_all is_path_byte c && (not (bytes_eq c (codes ".")) && not (bytes_eq c (codes ".."))))
 
 abbrev pub is_slash : ℕ → Bool
-is_slash c = c == 47
+is_slash c = c == code "/"
 
--- components with one `/` between, at most 255 bytes
+-- components with one `/` between, at most `MOST_PATH_BYTES`
 abbrev pub is_path : List ℕ → Bool
-is_path path = nat_le (length path) 255 && list_all is_component (slice_split is_slash path)
+is_path path = nat_le (length path) MOST_PATH_BYTES && list_all is_component (slice_split is_slash path)
 
 abbrev pub name_at : List Region → ℕ → List ℕ
 name_at [] r = []
@@ -96,7 +99,7 @@ fields s (unmap_line r) = codes "unmap" ∷ name_at s.regions r ∷ []
 
 -- a line without its line feed: the fields with one space between
 abbrev pub line_text : Said → Line → List ℕ
-line_text s l = join_with_byte 32 (fields s l)
+line_text s l = join_with_byte (code " ") (fields s l)
 
 -- a line of a text, without its line feed
 abbrev pub shown : Said → TextLine → List ℕ
@@ -110,39 +113,39 @@ after_text s (silent text) = s
 -- the text of lines behind lines that have said s: each with a line feed
 abbrev pub spelled : Said → List TextLine → List ℕ
 spelled s [] = []
-spelled s (t ∷ ts) = shown s t ++ 10 ∷ spelled (after_text s t) ts
+spelled s (t ∷ ts) = shown s t ++ code "\n" ∷ spelled (after_text s t) ts
 
 -- the longest region that may be kept so, in bytes
 abbrev pub most_size : Backing → ℕ
-most_size in_memory = 16777216
-most_size (in_file path) = 1099511627776
-most_size (in_files path file) = 1099511627776
+most_size in_memory = MOST_MEMORY_BYTES
+most_size (in_file path) = MOST_STORED_BYTES
+most_size (in_files path file) = MOST_STORED_BYTES
 
 -- files have a path, and files of a folder a length
 abbrev pub IsPlace : Backing → Type 0
 IsPlace in_memory = Unit {0}
 IsPlace (in_file path) = is_path path ≡ true
-IsPlace (in_files path file) = (is_path path ≡ true) × (1 ≤ file) × (file ≤ 1099511627776)
+IsPlace (in_files path file) = (is_path path ≡ true) × (1 ≤ file) × (file ≤ MOST_STORED_BYTES)
 
--- a region may come: above all scripts, and at most the 64th
+-- a region may come: above all scripts, and there are fewer than the most
 pub record MayMap (s : Said) (name : List ℕ) (backing : Backing) (size : ℕ) : Type 0 where
   pub above : s.scripts ≡ []
   pub named : is_name name ≡ true
   pub place : IsPlace backing
   pub least : 1 ≤ size
   pub most : size ≤ most_size backing
-  pub few : length s.regions < 64
+  pub few : length s.regions < MOST_REGIONS
 
--- a script may begin: its name is new, and it is at most the 64th
+-- a script may begin: its name is new, and there are fewer than the most
 pub record MayBegin (s : Said) (name : List ℕ) : Type 0 where
   pub named : is_name name ≡ true
   pub fresh : ¬ Contains s.scripts name
-  pub few : length s.scripts < 64
+  pub few : length s.scripts < MOST_SCRIPTS
 
--- a command may come: behind a script, and at most the 262144th
+-- a command may come: behind a script, and there are fewer than the most
 pub record MayCommand (s : Said) : Type 0 where
   pub begun : s.scripts ≢ []
-  pub few : s.commands < 262144
+  pub few : s.commands < MOST_COMMANDS
 
 -- it may name a region, which it does as the first of its name
 abbrev pub MayName : Said → (region : ℕ) → Type 0
@@ -152,24 +155,24 @@ MayName s r = region_of s (name_at s.regions r) ≡ Some r
 pub record MayReach (s : Said) (r off len : ℕ) : Type 0 where
   pub command : MayCommand s
   pub first : MayName s r
-  pub place : off ≤ 1099511627776
+  pub place : off ≤ MOST_STORED_BYTES
   pub inside : off + len ≤ size_at s.regions r
 
 pub record MayLoad (s : Said) (r off len : ℕ) : Type 0 where
   pub reach : MayReach s r off len
-  pub short : len ≤ 65536
-  pub room : s.loaded + len ≤ 33554432
+  pub short : len ≤ MOST_ACCESS_BYTES
+  pub room : s.loaded + len ≤ MOST_LOADED_BYTES
 
 pub record MayStore (s : Said) (r off : ℕ) (bytes : List ℕ) : Type 0 where
   pub reach : MayReach s r off (length bytes)
   pub some : 1 ≤ length bytes
-  pub short : length bytes ≤ 65536
+  pub short : length bytes ≤ MOST_ACCESS_BYTES
   pub bytes_all : All (λ b. b < 256) bytes
   pub writable : writable_at s.regions r ≡ true
 
 pub record MayPrefetch (s : Said) (r off len : ℕ) : Type 0 where
   pub reach : MayReach s r off len
-  pub short : len ≤ 1099511627776
+  pub short : len ≤ MOST_STORED_BYTES
 
 pub record MayUnmap (s : Said) (r : ℕ) : Type 0 where
   pub command : MayCommand s
@@ -187,12 +190,12 @@ Allowed s (unmap_line r) = MayUnmap s r
 
 -- an empty line, or one that begins with `#`
 abbrev pub is_silent : List ℕ → Bool
-is_silent text = (length text == 0) || (slice_index text 0 == 35)
+is_silent text = (length text == 0) || (slice_index text 0 == code "#")
 
 -- a line that says nothing: it may have any other bytes
 pub record IsSilent (text : List ℕ) : Type 0 where
   pub marked : is_silent text ≡ true
-  pub one_line : All (λ b. b ≢ 10) text
+  pub one_line : All (λ b. b ≢ code "\n") text
 
 abbrev pub AllowedText : Said → TextLine → Type 0
 AllowedText s (says l) = Allowed s l
@@ -206,7 +209,7 @@ AllAllowed s (t ∷ ts) = AllowedText s t × AllAllowed (after_text s t) ts
 pub record IsText (bytes : List ℕ) (texts : List TextLine) : Type 0 where
   pub spelt : bytes ≡ spelled nothing texts
   pub allowed : AllAllowed nothing texts
-  pub short : length bytes ≤ 16777216
+  pub short : length bytes ≤ MOST_TEXT_BYTES
 
 -- what the lines of a text say
 abbrev pub lines_in : List TextLine → List Line

@@ -1,14 +1,18 @@
 -- What has been read so far, and what one more line does to it: the terms in which the reader's own
 -- methods are stated. No caller needs them.
-use Rattle.std.specs.Prelude.{◌≡◌, ◌≤◌, ℕ, List, [], ◌∷◌, ◌++◌, length, map, Option, Some, None, Result, Ok, Err}
+use Rattle.std.specs.Prelude.{◌≡◌, ◌≤◌, ℕ, Bool, List, [], ◌∷◌, ◌++◌, length, map, Option, Some, None, Result, Ok, Err}
 use Rattle.std.specs.List.{flat_map}
 use Rattle.std.specs.Result.{IsOkAnd}
+use Rattle.page_base.specs.declared.limits.TheConstants.{MOST_REGIONS}
+use Rattle.workload_text.specs.declared.limits.TheConstants.{MOST_LOADED_BYTES}
 use Rattle.workload_text.specs.Line.{Line, TextLine, says, map_line}
-use Rattle.workload_text.specs.View.{region, region_line, script_lines}
+use Rattle.workload_text.specs.View.{region, region_line, script_lines, backing_of}
+use Rattle.workload_text.specs.Reading.{as_region}
 use Rattle.workload_text.specs.Grammar.{Said, after_text, lines_in}
 use Rattle.workload_text.specs.Refusals.{RefusedAt}
 use Rattle.workload_text.specs.declared.workload.MapLine.{MapLine}
 use Rattle.workload_text.specs.declared.workload.Script.{Script}
+use Rattle.workload_text.specs.declared.workload.StoreKind.{StoreKind}
 use Rattle.workload_text.specs.declared.reading.Reading.{Reading}
 use Rattle.workload_text.specs.declared.refusal.TextKind.{TextKind}
 use Rattle.workload_text.specs.declared.refusal.LineFault.{LineFault}
@@ -52,8 +56,12 @@ Begun (Some s) scripts = Unit {0}
 -- what every line leaves true
 pub record IsSound (r : Reading) : Type 0 where
   pub begun : Begun r.current r.scripts.items
-  pub few : length r.maps.items ≤ 64
-  pub small : r.loaded ≤ 33554432
+  pub few : length r.maps.items ≤ MOST_REGIONS
+  pub small : r.loaded ≤ MOST_LOADED_BYTES
+
+-- the `map` line of such a region
+abbrev pub as_map : (name : List ℕ) → StoreKind → (size : ℕ) → (writable : Bool) → Said → Result Line TextKind
+as_map name kind size writable s = as_region s (map_line name (backing_of kind) size writable)
 
 -- the numbers of the `map` lines, with this line too, which is line n
 abbrev pub with_number : List ℕ → ℕ → TextLine → List ℕ
@@ -72,6 +80,10 @@ abbrev pub Takes : {U : Type 0} → Reading → Reading → Result Line TextKind
 Takes old new read (Ok u) = IsOkAnd read (λ l. Took old.line old new (says l))
 Takes old new read (Err OutOfMemory) = Unit {0}
 Takes old new read (Err (Refused kind)) = read ≡ Err kind
+
+-- the same of what is read behind all that was said so far
+abbrev pub TakesBy : {U : Type 0} → Reading → Reading → (Said → Result Line TextKind) → Result U LineFault → Type 0
+TakesBy old new reads result = Takes old new (reads (said_by old)) result
 
 -- the same of line n, which may say nothing
 abbrev pub TakesText : {U : Type 0} → ℕ → Reading → Reading → Result TextLine TextKind → Result U LineFault → Type 0

@@ -6,6 +6,8 @@ use Rattle.std.specs.Fmt.{decimal}
 use Rattle.std.specs.Str.{bytes_eq}
 use Rattle.std.specs.List.{list_any, slice_split}
 use Rattle.hex.specs.Hex.{encode_lower}
+use Rattle.page_base.specs.declared.limits.TheConstants.{MOST_REGIONS}
+use Rattle.workload_text.specs.declared.limits.TheConstants.{MOST_MEMORY_BYTES, MOST_STORED_BYTES, MOST_SCRIPTS, MOST_COMMANDS, MOST_ACCESS_BYTES, MOST_LOADED_BYTES}
 use Rattle.workload_text.specs.Grammar.{Said, is_name, is_path, is_silent, mode_text, region_of, size_at, writable_at}
 use Rattle.workload_text.specs.Reading.{is_empty, is_space}
 use Rattle.workload_text.specs.declared.refusal.TextKind.{TextKind}
@@ -32,7 +34,7 @@ pub record IsNumber (least most : ℕ) (field : List ℕ) (n : ℕ) : Type 0 whe
 pub record IsHex (field bytes : List ℕ) : Type 0 where
   pub spelt : field ≡ encode_lower bytes
   pub some : 1 ≤ length bytes
-  pub most : length bytes ≤ 65536
+  pub most : length bytes ≤ MOST_ACCESS_BYTES
   pub bytes_all : All (λ b. b < 256) bytes
 
 abbrev pub is_store_kind : List ℕ → Bool
@@ -64,9 +66,9 @@ FirstMisspelt k ts fs = ⊥
 abbrev pub forms : List (List ℕ × List Sort)
 forms =
     (codes "script", a_name ∷ [])
-    ∷ (codes "load", a_name ∷ a_number 0 1099511627776 ∷ a_number 0 65536 ∷ [])
-    ∷ (codes "store", a_name ∷ a_number 0 1099511627776 ∷ hex_bytes ∷ [])
-    ∷ (codes "prefetch", a_name ∷ a_number 0 1099511627776 ∷ a_number 0 1099511627776 ∷ [])
+    ∷ (codes "load", a_name ∷ a_number 0 MOST_STORED_BYTES ∷ a_number 0 MOST_ACCESS_BYTES ∷ [])
+    ∷ (codes "store", a_name ∷ a_number 0 MOST_STORED_BYTES ∷ hex_bytes ∷ [])
+    ∷ (codes "prefetch", a_name ∷ a_number 0 MOST_STORED_BYTES ∷ a_number 0 MOST_STORED_BYTES ∷ [])
     ∷ (codes "flush", [])
     ∷ (codes "unmap", a_name ∷ [])
     ∷ []
@@ -74,9 +76,9 @@ forms =
 -- the fields behind `map`, by the second of them
 abbrev pub map_forms : List (List ℕ × List Sort)
 map_forms =
-    (codes "memory", a_name ∷ a_store ∷ a_number 1 16777216 ∷ a_mode ∷ [])
-    ∷ (codes "file", a_name ∷ a_store ∷ a_path ∷ a_number 1 1099511627776 ∷ a_mode ∷ [])
-    ∷ (codes "sparse", a_name ∷ a_store ∷ a_path ∷ a_number 1 1099511627776 ∷ a_number 1 1099511627776 ∷ a_mode ∷ [])
+    (codes "memory", a_name ∷ a_store ∷ a_number 1 MOST_MEMORY_BYTES ∷ a_mode ∷ [])
+    ∷ (codes "file", a_name ∷ a_store ∷ a_path ∷ a_number 1 MOST_STORED_BYTES ∷ a_mode ∷ [])
+    ∷ (codes "sparse", a_name ∷ a_store ∷ a_path ∷ a_number 1 MOST_STORED_BYTES ∷ a_number 1 MOST_STORED_BYTES ∷ a_mode ∷ [])
     ∷ []
 
 abbrev pub sorts_by : List (List ℕ × List Sort) → (word : List ℕ) → Option (List Sort)
@@ -114,7 +116,7 @@ sorts_of fields = if is_map fields then sorts_by map_forms (field_at fields 2) e
 
 -- how many bytes a load or a hint asks for, and how many a store has
 abbrev pub NamesLength : List (List ℕ) → ℕ → Type 0
-NamesLength fields len = (names_length fields ≡ true) × IsNumber 0 1099511627776 (field_at fields 3) len
+NamesLength fields len = (names_length fields ≡ true) × IsNumber 0 MOST_STORED_BYTES (field_at fields 3) len
 
 abbrev pub NamesBytes : List (List ℕ) → ℕ → Type 0
 NamesBytes fields len =
@@ -124,7 +126,7 @@ NamesBytes fields len =
 -- the range of a region that a load, a store or a hint names
 pub record NamesRange (s : Said) (fields : List (List ℕ)) (r off len : ℕ) : Type 0 where
   pub region : region_of s (field_at fields 1) ≡ Some r
-  pub from : IsNumber 0 1099511627776 (field_at fields 2) off
+  pub from : IsNumber 0 MOST_STORED_BYTES (field_at fields 2) off
   pub length_is : NamesLength fields len ⊎ NamesBytes fields len
 
 -- ---- the kinds
@@ -147,11 +149,11 @@ IsMisspelt k fields = IsSomeAnd (sorts_of fields) (λ sorts. FirstMisspelt k sor
 
 -- it is one more than a limit allows
 pub data IsTooMany (s : Said) (fields : List (List ℕ)) : Type 0 where
-  regions : is_map fields ≡ true → 64 ≤ length s.regions → IsTooMany s fields
-  scripts : begins_with (codes "script") fields ≡ true → 64 ≤ length s.scripts → IsTooMany s fields
-  commands : is_command fields ≡ true → 262144 ≤ s.commands → IsTooMany s fields
-  loads : begins_with (codes "load") fields ≡ true → (len : ℕ) → IsNumber 0 65536 (field_at fields 3) len
-      → 33554432 < s.loaded + len → IsTooMany s fields
+  regions : is_map fields ≡ true → MOST_REGIONS ≤ length s.regions → IsTooMany s fields
+  scripts : begins_with (codes "script") fields ≡ true → MOST_SCRIPTS ≤ length s.scripts → IsTooMany s fields
+  commands : is_command fields ≡ true → MOST_COMMANDS ≤ s.commands → IsTooMany s fields
+  loads : begins_with (codes "load") fields ≡ true → (len : ℕ) → IsNumber 0 MOST_ACCESS_BYTES (field_at fields 3) len
+      → MOST_LOADED_BYTES < s.loaded + len → IsTooMany s fields
 
 -- it names a region that is mapped `ro`
 abbrev pub NamesReadOnly : Said → List (List ℕ) → Type 0

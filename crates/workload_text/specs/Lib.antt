@@ -8,6 +8,7 @@ pub mod FirstBad
 pub mod Accepted
 pub mod Built
 pub mod InsideCuts
+pub mod InsideFields
 pub mod InsideState
 pub mod Answers
 pub mod InsideAnswers

@@ -6,6 +6,9 @@ use Rattle.std.specs.Str.{bytes_eq}
 use Rattle.std.specs.Str.Parse.{digits_value}
 use Rattle.std.specs.List.{list_any, list_all, slice_split}
 use Rattle.page_base.specs.Backings.{in_memory, in_file, in_files}
+use Prim.Native.Char.{code}
+use Rattle.page_base.specs.declared.limits.TheConstants.{MOST_REGIONS}
+use Rattle.workload_text.specs.declared.limits.TheConstants.{MOST_MEMORY_BYTES, MOST_STORED_BYTES, MOST_SCRIPTS, MOST_COMMANDS, MOST_ACCESS_BYTES, MOST_LOADED_BYTES}
 use Rattle.workload_text.specs.Line.{Line, TextLine, says, silent, map_line, script_line, load_line, store_line, prefetch_line, flush_line, unmap_line}
 use Rattle.workload_text.specs.Grammar.{Said, is_name, is_path, is_silent, region_of, size_at, writable_at}
 use Rattle.workload_text.specs.declared.refusal.TextKind.{TextKind}
@@ -33,10 +36,10 @@ number_of least most field =
 
 -- `0` to `9` and `a` to `f`
 abbrev pub is_hex_digit : ℕ → Bool
-is_hex_digit c = (nat_le 48 c && nat_le c 57) || (nat_le 97 c && nat_le c 102)
+is_hex_digit c = (nat_le (code "0") c && nat_le c (code "9")) || (nat_le (code "a") c && nat_le c (code "f"))
 
 abbrev pub hex_digit_value : ℕ → ℕ
-hex_digit_value c = if nat_le c 57 then c - 48 else c - 87
+hex_digit_value c = if nat_le c (code "9") then c - code "0" else c - code "a" + 10
 
 -- the byte of each two digits
 abbrev pub hex_pairs : List ℕ → List ℕ
@@ -44,9 +47,9 @@ hex_pairs [] = []
 hex_pairs (digit ∷ []) = []
 hex_pairs (high ∷ low ∷ rest) = (16 * hex_digit_value high + hex_digit_value low) ∷ hex_pairs rest
 
--- two digits for each of 1 to 65536 bytes
+-- two digits for each of 1 to `MOST_ACCESS_BYTES`
 abbrev pub is_hex : List ℕ → Bool
-is_hex field = (length field % 2 == 0) && (nat_le 2 (length field) && (nat_le (length field) 131072 && list_all is_hex_digit field))
+is_hex field = (length field % 2 == 0) && (nat_le 2 (length field) && (nat_le (length field) (2 * MOST_ACCESS_BYTES) && list_all is_hex_digit field))
 
 unfoldable pub bytes_of : List ℕ → Option (List ℕ)
 bytes_of field = if is_hex field then Some (hex_pairs field) else None
@@ -73,16 +76,16 @@ four_of fields = None
 
 -- ---- the lines of regions
 
--- at most 64 regions
+-- there are fewer regions than the most
 abbrev pub as_region : Said → Line → Result Line TextKind
-as_region s l = if nat_lt (length s.regions) 64 then Ok l else Err kind.Many
+as_region s l = if nat_lt (length s.regions) MOST_REGIONS then Ok l else Err kind.Many
 
 unfoldable pub read_memory : Said → (name size mode : List ℕ) → Result Line TextKind
 read_memory s name size mode =
     if not (is_empty s.scripts) then Err kind.Order
     else if not (is_name name) then Err kind.Name
     else do
-      n ← or_refused kind.Number (number_of 1 16777216 size)
+      n ← or_refused kind.Number (number_of 1 MOST_MEMORY_BYTES size)
       w ← or_refused kind.Mode (mode_of mode)
       as_region s (map_line name in_memory n w)
 
@@ -92,7 +95,7 @@ read_file s name path size mode =
     else if not (is_name name) then Err kind.Name
     else if not (is_path path) then Err kind.Path
     else do
-      n ← or_refused kind.Number (number_of 1 1099511627776 size)
+      n ← or_refused kind.Number (number_of 1 MOST_STORED_BYTES size)
       w ← or_refused kind.Mode (mode_of mode)
       as_region s (map_line name (in_file path) n w)
 
@@ -102,8 +105,8 @@ read_sparse s name path size file mode =
     else if not (is_name name) then Err kind.Name
     else if not (is_path path) then Err kind.Path
     else do
-      n ← or_refused kind.Number (number_of 1 1099511627776 size)
-      m ← or_refused kind.Number (number_of 1 1099511627776 file)
+      n ← or_refused kind.Number (number_of 1 MOST_STORED_BYTES size)
+      m ← or_refused kind.Number (number_of 1 MOST_STORED_BYTES file)
       w ← or_refused kind.Mode (mode_of mode)
       as_region s (map_line name (in_files path m) n w)
 
@@ -124,7 +127,7 @@ unfoldable pub read_script : Said → (name : List ℕ) → Result Line TextKind
 read_script s name =
     if not (is_name name) then Err kind.Name
     else if list_any (bytes_eq name) s.scripts then Err kind.Double
-    else if nat_lt (length s.scripts) 64 then Ok (script_line name)
+    else if nat_lt (length s.scripts) MOST_SCRIPTS then Ok (script_line name)
     else Err kind.Many
 
 unfoldable pub read_load : Said → (name off len : List ℕ) → Result Line TextKind
@@ -132,11 +135,11 @@ read_load s name off len =
     if is_empty s.scripts then Err kind.Order
     else if not (is_name name) then Err kind.Name
     else do
-      o ← or_refused kind.Number (number_of 0 1099511627776 off)
-      n ← or_refused kind.Number (number_of 0 65536 len)
+      o ← or_refused kind.Number (number_of 0 MOST_STORED_BYTES off)
+      n ← or_refused kind.Number (number_of 0 MOST_ACCESS_BYTES len)
       r ← or_refused kind.Unknown (region_of s name)
       if not (nat_le (o + n) (size_at s.regions r)) then Err kind.Range
-          else if nat_lt s.commands 262144 && nat_le (s.loaded + n) 33554432 then Ok (load_line r o n)
+          else if nat_lt s.commands MOST_COMMANDS && nat_le (s.loaded + n) MOST_LOADED_BYTES then Ok (load_line r o n)
           else Err kind.Many
 
 unfoldable pub read_store : Said → (name off hex : List ℕ) → Result Line TextKind
@@ -144,12 +147,12 @@ read_store s name off hex =
     if is_empty s.scripts then Err kind.Order
     else if not (is_name name) then Err kind.Name
     else do
-      o ← or_refused kind.Number (number_of 0 1099511627776 off)
+      o ← or_refused kind.Number (number_of 0 MOST_STORED_BYTES off)
       bytes ← or_refused kind.Hex (bytes_of hex)
       r ← or_refused kind.Unknown (region_of s name)
       if not (nat_le (o + length bytes) (size_at s.regions r)) then Err kind.Range
           else if not (writable_at s.regions r) then Err kind.ReadOnly
-          else if nat_lt s.commands 262144 then Ok (store_line r o bytes)
+          else if nat_lt s.commands MOST_COMMANDS then Ok (store_line r o bytes)
           else Err kind.Many
 
 unfoldable pub read_prefetch : Said → (name off len : List ℕ) → Result Line TextKind
@@ -157,17 +160,17 @@ read_prefetch s name off len =
     if is_empty s.scripts then Err kind.Order
     else if not (is_name name) then Err kind.Name
     else do
-      o ← or_refused kind.Number (number_of 0 1099511627776 off)
-      n ← or_refused kind.Number (number_of 0 1099511627776 len)
+      o ← or_refused kind.Number (number_of 0 MOST_STORED_BYTES off)
+      n ← or_refused kind.Number (number_of 0 MOST_STORED_BYTES len)
       r ← or_refused kind.Unknown (region_of s name)
       if not (nat_le (o + n) (size_at s.regions r)) then Err kind.Range
-          else if nat_lt s.commands 262144 then Ok (prefetch_line r o n)
+          else if nat_lt s.commands MOST_COMMANDS then Ok (prefetch_line r o n)
           else Err kind.Many
 
 unfoldable pub read_flush : Said → Result Line TextKind
 read_flush s =
     if is_empty s.scripts then Err kind.Order
-    else if nat_lt s.commands 262144 then Ok flush_line
+    else if nat_lt s.commands MOST_COMMANDS then Ok flush_line
     else Err kind.Many
 
 unfoldable pub read_unmap : Said → (name : List ℕ) → Result Line TextKind
@@ -176,7 +179,7 @@ read_unmap s name =
     else if not (is_name name) then Err kind.Name
     else do
       r ← or_refused kind.Unknown (region_of s name)
-      if nat_lt s.commands 262144 then Ok (unmap_line r) else Err kind.Many
+      if nat_lt s.commands MOST_COMMANDS then Ok (unmap_line r) else Err kind.Many
 
 -- ---- one line
 
@@ -198,10 +201,10 @@ read_fields s [] = Err kind.Line
 read_fields s (word ∷ rest) = read_word s word rest
 
 abbrev pub is_space : ℕ → Bool
-is_space b = b == 32
+is_space b = b == code " "
 
 abbrev pub is_line_feed : ℕ → Bool
-is_line_feed b = b == 10
+is_line_feed b = b == code "\n"
 
 abbrev pub read_line : Said → List ℕ → Result Line TextKind
 read_line s text = read_fields s (slice_split is_space text)

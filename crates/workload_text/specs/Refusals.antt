@@ -2,6 +2,7 @@
 -- applies to it. A text is cut at its line feeds; behind the last one stands nothing.
 use Rattle.std.specs.Prelude.{ℕ, ◌+◌, nat_le, if◌then◌else◌, List, [], ◌∷◌, length, Option, Some, None, Result, Ok, Err}
 use Rattle.std.specs.List.{slice_split}
+use Rattle.workload_text.specs.declared.limits.TheConstants.{MOST_TEXT_BYTES}
 use Rattle.workload_text.specs.Line.{TextLine}
 use Rattle.workload_text.specs.Grammar.{Said, nothing, after_text}
 use Rattle.workload_text.specs.Reading.{read_text_line, is_empty, is_line_feed}
@@ -30,7 +31,7 @@ refusal_from n s (text ∷ more ∷ texts) = or_later n (read_text_line s text) 
 -- why a text is no workload, if it is none
 unfoldable pub refusal : List ℕ → Option RefusedAt
 refusal bytes =
-    if nat_le (length bytes) 16777216 then refusal_from 1 nothing (slice_split is_line_feed bytes)
+    if nat_le (length bytes) MOST_TEXT_BYTES then refusal_from 1 nothing (slice_split is_line_feed bytes)
     else Some (record { line = 0; kind = kind.Long })
 
 -- ---- the reading
@@ -53,5 +54,5 @@ read_texts n s (text ∷ more ∷ texts) =
 -- the lines of a text, or its refusal
 unfoldable pub read_text : List ℕ → Result (List TextLine) RefusedAt
 read_text bytes =
-    if nat_le (length bytes) 16777216 then read_texts 1 nothing (slice_split is_line_feed bytes)
+    if nat_le (length bytes) MOST_TEXT_BYTES then read_texts 1 nothing (slice_split is_line_feed bytes)
     else Err (record { line = 0; kind = kind.Long })

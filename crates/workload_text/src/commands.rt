@@ -1,18 +1,20 @@
 //! Reading the lines of commands. A command goes to the script that has begun last.
-ghost use Rattle.std.specs.Prelude.{◌≡◌, ◌<◌, ◌≤◌, ℕ, length, map, IfSome, IsSome, OnOk, ◌+◌, ◌^◌, ◌++◌, [], ◌∷◌};
+ghost use Rattle.std.specs.Prelude.{◌≡◌, ◌<◌, ◌≤◌, length, map, IfSome, IsSome, OnOk, ◌+◌, ◌^◌, ◌++◌, [], ◌∷◌};
+ghost use Rattle.page_base.specs.declared.limits.TheConstants.{MOST_REGIONS};
 ghost use Rattle.workload_text.specs.Grammar.{region_from, size_at, writable_at};
 ghost use Rattle.workload_text.specs.View.{region, command_line};
 ghost use Rattle.workload_text.specs.Reading.{read_load, read_store, read_prefetch, read_flush, read_unmap};
-ghost use Rattle.workload_text.specs.InsideState.{Takes, IsSound, said_by, lines_by};
+ghost use Rattle.workload_text.specs.InsideState.{TakesBy, IsSound, said_by, lines_by};
 
 use crate::field::{hex_bytes, is_name, number};
-use crate::reading::{Reading, push, refused};
+use crate::limits::{MOST_ACCESS_BYTES, MOST_COMMANDS, MOST_LOADED_BYTES, MOST_STORED_BYTES};
+use crate::reading::{Reading, refused};
 use crate::refusal::{LineFault, TextKind};
 use crate::workload::{Command, MapLine};
 use page_base::OutOfMemory;
 
 fn region_of(maps: &[MapLine], name: &[u8]) -> Option<u16>
-    requires { length maps.now ≤ 64 }
+    requires { length maps.now ≤ MOST_REGIONS }
     ensures found { result ≡ region_from 0 (map region maps.now) name.now }
     ensures within { IfSome result (λ r. r < length maps.now) }
 {
@@ -42,7 +44,7 @@ impl Reading {
     /// Adds a command to the script that has begun; it loads so many bytes.
     fn add(&mut self, command: Command, loads: u32) -> Result<(), OutOfMemory>
         requires begun { IsSome self.old.current }
-        requires few { self.old.commands < 262144 }
+        requires few { self.old.commands < MOST_COMMANDS }
         requires room { self.old.loaded + loads < 2 ^ 32 }
         ensures lines { OnOk result (lines_by self.new ≡ lines_by self.old ++ command_line command ∷ []) }
         ensures regions { self.new.maps ≡ self.old.maps }
@@ -55,7 +57,7 @@ impl Reading {
         match &mut self.current {
             None => unreachable!(),
             Some(script) => {
-                push(&mut script.commands, command)?;
+                script.commands.push(command)?;
                 self.commands += 1;
                 self.loaded += loads;
                 Ok(())
@@ -66,7 +68,7 @@ impl Reading {
     #[tactic(auto, unfolding(crate::specs::Reading::read_load))]
     pub(crate) fn load(&mut self, name: &[u8], off: &[u8], len: &[u8]) -> Result<(), LineFault>
         requires { IsSound self.old }
-        ensures { Takes self.old self.new (read_load (said_by self.old) name.now off.now len.now) result }
+        ensures { TakesBy self.old self.new (λ s. read_load s name.now off.now len.now) result }
     {
         if self.current.is_none() {
             return refused(TextKind::Order);
@@ -74,10 +76,10 @@ impl Reading {
         if !is_name(name) {
             return refused(TextKind::Name);
         }
-        let Some(off) = number(off, 0, 1099511627776) else {
+        let Some(off) = number(off, 0, MOST_STORED_BYTES) else {
             return refused(TextKind::Number);
         };
-        let Some(len) = number(len, 0, 65536) else {
+        let Some(len) = number(len, 0, MOST_ACCESS_BYTES as u64) else {
             return refused(TextKind::Number);
         };
         let Some(region) = region_of(self.maps.as_slice(), name) else {
@@ -86,7 +88,7 @@ impl Reading {
         if off + len > size_at(self.maps.as_slice(), region as usize) {
             return refused(TextKind::Range);
         }
-        if self.commands >= 262144 || u64::from(self.loaded) + len > 33554432 {
+        if self.commands >= MOST_COMMANDS || u64::from(self.loaded) + len > MOST_LOADED_BYTES {
             return refused(TextKind::Many);
         }
         let len = len as u32;
@@ -97,7 +99,7 @@ impl Reading {
     #[tactic(auto, unfolding(crate::specs::Reading::read_store))]
     pub(crate) fn store(&mut self, name: &[u8], off: &[u8], hex: &[u8]) -> Result<(), LineFault>
         requires { IsSound self.old }
-        ensures { Takes self.old self.new (read_store (said_by self.old) name.now off.now hex.now) result }
+        ensures { TakesBy self.old self.new (λ s. read_store s name.now off.now hex.now) result }
     {
         if self.current.is_none() {
             return refused(TextKind::Order);
@@ -105,7 +107,7 @@ impl Reading {
         if !is_name(name) {
             return refused(TextKind::Name);
         }
-        let Some(off) = number(off, 0, 1099511627776) else {
+        let Some(off) = number(off, 0, MOST_STORED_BYTES) else {
             return refused(TextKind::Number);
         };
         let Some(bytes) = hex_bytes(self.alloc, hex)? else {
@@ -120,7 +122,7 @@ impl Reading {
         if !writable_at(self.maps.as_slice(), region as usize) {
             return refused(TextKind::ReadOnly);
         }
-        if self.commands >= 262144 {
+        if self.commands >= MOST_COMMANDS {
             return refused(TextKind::Many);
         }
         self.add(Command::Store { region, off, bytes }, 0)?;
@@ -130,7 +132,7 @@ impl Reading {
     #[tactic(auto, unfolding(crate::specs::Reading::read_prefetch))]
     pub(crate) fn prefetch(&mut self, name: &[u8], off: &[u8], len: &[u8]) -> Result<(), LineFault>
         requires { IsSound self.old }
-        ensures { Takes self.old self.new (read_prefetch (said_by self.old) name.now off.now len.now) result }
+        ensures { TakesBy self.old self.new (λ s. read_prefetch s name.now off.now len.now) result }
     {
         if self.current.is_none() {
             return refused(TextKind::Order);
@@ -138,10 +140,10 @@ impl Reading {
         if !is_name(name) {
             return refused(TextKind::Name);
         }
-        let Some(off) = number(off, 0, 1099511627776) else {
+        let Some(off) = number(off, 0, MOST_STORED_BYTES) else {
             return refused(TextKind::Number);
         };
-        let Some(len) = number(len, 0, 1099511627776) else {
+        let Some(len) = number(len, 0, MOST_STORED_BYTES) else {
             return refused(TextKind::Number);
         };
         let Some(region) = region_of(self.maps.as_slice(), name) else {
@@ -150,7 +152,7 @@ impl Reading {
         if off + len > size_at(self.maps.as_slice(), region as usize) {
             return refused(TextKind::Range);
         }
-        if self.commands >= 262144 {
+        if self.commands >= MOST_COMMANDS {
             return refused(TextKind::Many);
         }
         self.add(Command::Prefetch { region, off, len }, 0)?;
@@ -160,12 +162,12 @@ impl Reading {
     #[tactic(auto, unfolding(crate::specs::Reading::read_flush))]
     pub(crate) fn flush(&mut self) -> Result<(), LineFault>
         requires { IsSound self.old }
-        ensures { Takes self.old self.new (read_flush (said_by self.old)) result }
+        ensures { TakesBy self.old self.new (λ s. read_flush s) result }
     {
         if self.current.is_none() {
             return refused(TextKind::Order);
         }
-        if self.commands >= 262144 {
+        if self.commands >= MOST_COMMANDS {
             return refused(TextKind::Many);
         }
         self.add(Command::Flush, 0)?;
@@ -175,7 +177,7 @@ impl Reading {
     #[tactic(auto, unfolding(crate::specs::Reading::read_unmap))]
     pub(crate) fn unmap(&mut self, name: &[u8]) -> Result<(), LineFault>
         requires { IsSound self.old }
-        ensures { Takes self.old self.new (read_unmap (said_by self.old) name.now) result }
+        ensures { TakesBy self.old self.new (λ s. read_unmap s name.now) result }
     {
         if self.current.is_none() {
             return refused(TextKind::Order);
@@ -186,7 +188,7 @@ impl Reading {
         let Some(region) = region_of(self.maps.as_slice(), name) else {
             return refused(TextKind::Unknown);
         };
-        if self.commands >= 262144 {
+        if self.commands >= MOST_COMMANDS {
             return refused(TextKind::Many);
         }
         self.add(Command::Unmap { region }, 0)?;

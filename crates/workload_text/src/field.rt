@@ -1,17 +1,19 @@
 //! Readers of single fields: each accepts the one spelling that the grammar prints.
-ghost use Rattle.std.specs.Prelude.{◌≡◌, ◌<◌, ◌≤◌, ◌*◌, ◌^◌, ℕ, true, length, slice_index, IsTrue, ◌↔◌, IfOk, IfSome, IfNone};
+ghost use Rattle.std.specs.Prelude.{◌≡◌, ◌<◌, ◌≤◌, ◌*◌, ◌^◌, true, length, IsTrue, ◌↔◌, IfOk, IfSome, IfNone};
 ghost use Rattle.std.specs.Str.Parse.{AllDigits, digits_value};
 ghost use Rattle.std.specs.Option.{option_map};
 ghost use Rattle.std.specs.List.{list_all};
 ghost use Rattle.workload_text.specs.Grammar.{is_name, is_name_byte, is_path, is_path_byte, is_component};
+ghost use Rattle.workload_text.specs.InsideFields.{IsPlain};
 ghost use Rattle.workload_text.specs.Reading.{number_of, bytes_of, mode_of, is_hex, is_hex_digit, hex_digit_value, hex_pairs};
 
+use crate::limits::{MOST_ACCESS_BYTES, MOST_NAME_BYTES, MOST_PATH_BYTES};
 use page_base::{Bytes, OutOfMemory};
 use std::alloc::Global;
 
 /// One byte at least, and no `0` in front of others.
 fn is_plain(field: &[u8]) -> bool
-    ensures { IsTrue result ↔ ((0 < length field.now) × (slice_index field.now 0 ≡ 48 → length field.now ≡ 1)) }
+    ensures { IsTrue result ↔ IsPlain field.now }
 {
     field.len() == 1 || (field.len() > 1 && field[0] != b'0')
 }
@@ -23,13 +25,13 @@ fn digits(field: &[u8]) -> Option<u64>
 {
     let mut value = 0u64;
     for c in field {
-        if *c < 48 || *c > 57 {
+        if *c < b'0' || *c > b'9' {
             return None;
         }
         let Some(tens) = value.checked_mul(10) else {
             return None;
         };
-        let Some(more) = tens.checked_add(u64::from(*c - 48)) else {
+        let Some(more) = tens.checked_add(u64::from(*c - b'0')) else {
             return None;
         };
         value = more;
@@ -57,13 +59,13 @@ pub fn number(field: &[u8], least: u64, most: u64) -> Option<u64>
 fn is_name_byte(c: u8) -> bool
     ensures { result ≡ is_name_byte c }
 {
-    (65 <= c && c <= 90) || (97 <= c && c <= 122) || (48 <= c && c <= 57) || c == 95
+    (b'A' <= c && c <= b'Z') || (b'a' <= c && c <= b'z') || (b'0' <= c && c <= b'9') || c == b'_'
 }
 
 pub fn is_name(field: &[u8]) -> bool
     ensures { result ≡ is_name field.now }
 {
-    if field.len() < 1 || field.len() > 32 {
+    if field.len() < 1 || field.len() > MOST_NAME_BYTES {
         return false;
     }
     for c in field {
@@ -77,7 +79,7 @@ pub fn is_name(field: &[u8]) -> bool
 fn is_path_byte(c: u8) -> bool
     ensures { result ≡ is_path_byte c }
 {
-    is_name_byte(c) || c == 46 || c == 45
+    is_name_byte(c) || c == b'.' || c == b'-'
 }
 
 fn are_path_bytes(part: &[u8]) -> bool
@@ -92,11 +94,11 @@ fn is_component(part: &[u8]) -> bool
     1 <= part.len() && are_path_bytes(part) && part != b".".as_slice() && part != b"..".as_slice()
 }
 
-/// Components with one `/` between, at most 255 bytes.
+/// Components with one `/` between, at most `MOST_PATH_BYTES`.
 pub fn is_path(field: &[u8]) -> bool
     ensures { result ≡ is_path field.now }
 {
-    field.len() <= 255 && field.split(|c| *c == b'/').all(|part| is_component(part))
+    field.len() <= MOST_PATH_BYTES && field.split(|c| *c == b'/').all(|part| is_component(part))
 }
 
 #[tactic(auto, unfolding(crate::specs::Reading::mode_of))]
@@ -115,7 +117,7 @@ pub fn mode(field: &[u8]) -> Option<bool>
 fn is_hex_digit(c: u8) -> bool
     ensures { result ≡ is_hex_digit c }
 {
-    (48 <= c && c <= 57) || (97 <= c && c <= 102)
+    (b'0' <= c && c <= b'9') || (b'a' <= c && c <= b'f')
 }
 
 fn hex_digit_value(c: u8) -> u8
@@ -123,7 +125,7 @@ fn hex_digit_value(c: u8) -> u8
     ensures value { result ≡ hex_digit_value c }
     ensures small { result < 16 }
 {
-    if c <= 57 { c - 48 } else { c - 87 }
+    if c <= b'9' { c - b'0' } else { c - b'a' + 10 }
 }
 
 // No early exit, so that the loop is one over whole vectors of bytes.
@@ -140,7 +142,10 @@ fn all_hex_digits(field: &[u8]) -> bool
 fn is_hex(field: &[u8]) -> bool
     ensures { result ≡ is_hex field.now }
 {
-    field.len() % 2 == 0 && 2 <= field.len() && field.len() <= 131072 && all_hex_digits(field)
+    field.len() % 2 == 0
+        && 2 <= field.len()
+        && field.len() <= 2 * MOST_ACCESS_BYTES
+        && all_hex_digits(field)
 }
 
 fn decode(field: &[u8], out: &mut [u8])
@@ -157,7 +162,7 @@ fn decode(field: &[u8], out: &mut [u8])
 #[tactic(auto, unfolding(crate::specs::Reading::bytes_of))]
 pub fn hex_bytes(alloc: Global, field: &[u8]) -> Result<Option<Bytes>, OutOfMemory>
     ensures value { IfOk result (λ o. option_map (λ b. b.items) o ≡ bytes_of field.now) }
-    ensures few { IfOk result (λ o. IfSome o (λ b. length b.items ≤ 65536)) }
+    ensures few { IfOk result (λ o. IfSome o (λ b. length b.items ≤ MOST_ACCESS_BYTES)) }
 {
     if !is_hex(field) {
         return Ok(None);

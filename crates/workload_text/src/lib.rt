@@ -11,16 +11,19 @@ mod commands;
 mod cut;
 mod field;
 pub mod laws;
+mod limits;
 mod maps;
 mod reading;
 mod refusal;
 mod scripts;
-#[cfg(test)]
-mod tests;
 mod text;
 mod workload;
 
 pub use crate::field::number;
+pub use crate::limits::{
+    MOST_ACCESS_BYTES, MOST_COMMANDS, MOST_LOADED_BYTES, MOST_MEMORY_BYTES, MOST_NAME_BYTES,
+    MOST_PATH_BYTES, MOST_SCRIPTS, MOST_STORED_BYTES, MOST_TEXT_BYTES,
+};
 pub use crate::refusal::{TextFault, TextKind};
 pub use crate::text::parse;
 pub use crate::workload::{Command, MapLine, Parsed, Script, StoreKind, Workload, is_built};

@@ -1,23 +1,19 @@
 //! Reading a `map` line: a region, and where its bytes are kept.
 ghost use Rattle.std.specs.Prelude.{◌≡◌};
-ghost use Rattle.workload_text.specs.Line.{map_line};
-ghost use Rattle.workload_text.specs.View.{backing_of};
-ghost use Rattle.workload_text.specs.Reading.{as_region, read_memory, read_file, read_sparse, read_map};
+ghost use Rattle.workload_text.specs.Reading.{read_memory, read_file, read_sparse, read_map};
 ghost use Rattle.workload_text.specs.InsideCuts.{fields_left};
-ghost use Rattle.workload_text.specs.InsideState.{Takes, IsSound, said_by};
+ghost use Rattle.workload_text.specs.InsideState.{as_map, TakesBy, IsSound};
 
 use crate::cut::{four, has_empty_field, next_field, three, two};
 use crate::field::{is_name, is_path, mode, number};
-use crate::reading::{Reading, push, refused};
+use crate::limits::{MOST_MEMORY_BYTES, MOST_STORED_BYTES};
+use crate::reading::{Reading, refused};
 use crate::refusal::{LineFault, TextKind};
 use crate::workload::{MapLine, StoreKind};
-use page_base::Bytes;
-
-/// The longest region in files, and the longest file of a folder, in bytes.
-const MOST_STORED: u64 = 1099511627776;
+use page_base::{Bytes, MOST_REGIONS};
 
 impl Reading {
-    /// Adds a region, where there are fewer than 64.
+    /// Adds a region, where there are fewer than the most.
     fn add_region(
         &mut self,
         name: &[u8],
@@ -27,29 +23,26 @@ impl Reading {
     ) -> Result<(), LineFault>
         requires sound { IsSound self.old }
         requires above { self.old.current ≡ None }
-        ensures { Takes self.old self.new (as_region (said_by self.old) (map_line name.now (backing_of kind) length writable)) result }
+        ensures { TakesBy self.old self.new (as_map name.now kind length writable) result }
     {
-        if self.maps.len() >= 64 {
+        if self.maps.len() >= MOST_REGIONS {
             return refused(TextKind::Many);
         }
         let name = Bytes::from_slice(self.alloc, name)?;
-        push(&mut self.map_lines, self.line)?;
-        push(
-            &mut self.maps,
-            MapLine {
-                name,
-                kind,
-                length,
-                writable,
-            },
-        )?;
+        self.map_lines.push(self.line)?;
+        self.maps.push(MapLine {
+            name,
+            kind,
+            length,
+            writable,
+        })?;
         Ok(())
     }
 
     #[tactic(auto, unfolding(crate::specs::Reading::read_memory))]
-    fn memory(&mut self, name: &[u8], size: &[u8], mode_field: &[u8]) -> Result<(), LineFault>
+    fn memory(&mut self, name: &[u8], size: &[u8], access: &[u8]) -> Result<(), LineFault>
         requires { IsSound self.old }
-        ensures { Takes self.old self.new (read_memory (said_by self.old) name.now size.now mode_field.now) result }
+        ensures { TakesBy self.old self.new (λ s. read_memory s name.now size.now access.now) result }
     {
         if self.current.is_some() {
             return refused(TextKind::Order);
@@ -57,10 +50,10 @@ impl Reading {
         if !is_name(name) {
             return refused(TextKind::Name);
         }
-        let Some(length) = number(size, 1, 16777216) else {
+        let Some(length) = number(size, 1, MOST_MEMORY_BYTES) else {
             return refused(TextKind::Number);
         };
-        let Some(writable) = mode(mode_field) else {
+        let Some(writable) = mode(access) else {
             return refused(TextKind::Mode);
         };
         self.add_region(name, StoreKind::Memory, length, writable)
@@ -72,10 +65,10 @@ impl Reading {
         name: &[u8],
         path: &[u8],
         size: &[u8],
-        mode_field: &[u8],
+        access: &[u8],
     ) -> Result<(), LineFault>
         requires { IsSound self.old }
-        ensures { Takes self.old self.new (read_file (said_by self.old) name.now path.now size.now mode_field.now) result }
+        ensures { TakesBy self.old self.new (λ s. read_file s name.now path.now size.now access.now) result }
     {
         if self.current.is_some() {
             return refused(TextKind::Order);
@@ -86,10 +79,10 @@ impl Reading {
         if !is_path(path) {
             return refused(TextKind::Path);
         }
-        let Some(length) = number(size, 1, MOST_STORED) else {
+        let Some(length) = number(size, 1, MOST_STORED_BYTES) else {
             return refused(TextKind::Number);
         };
-        let Some(writable) = mode(mode_field) else {
+        let Some(writable) = mode(access) else {
             return refused(TextKind::Mode);
         };
         let path = Bytes::from_slice(self.alloc, path)?;
@@ -103,10 +96,10 @@ impl Reading {
         path: &[u8],
         size: &[u8],
         file: &[u8],
-        mode_field: &[u8],
+        access: &[u8],
     ) -> Result<(), LineFault>
         requires { IsSound self.old }
-        ensures { Takes self.old self.new (read_sparse (said_by self.old) name.now path.now size.now file.now mode_field.now) result }
+        ensures { TakesBy self.old self.new (λ s. read_sparse s name.now path.now size.now file.now access.now) result }
     {
         if self.current.is_some() {
             return refused(TextKind::Order);
@@ -117,13 +110,13 @@ impl Reading {
         if !is_path(path) {
             return refused(TextKind::Path);
         }
-        let Some(length) = number(size, 1, MOST_STORED) else {
+        let Some(length) = number(size, 1, MOST_STORED_BYTES) else {
             return refused(TextKind::Number);
         };
-        let Some(file) = number(file, 1, MOST_STORED) else {
+        let Some(file) = number(file, 1, MOST_STORED_BYTES) else {
             return refused(TextKind::Number);
         };
-        let Some(writable) = mode(mode_field) else {
+        let Some(writable) = mode(access) else {
             return refused(TextKind::Mode);
         };
         let path = Bytes::from_slice(self.alloc, path)?;
@@ -134,7 +127,7 @@ impl Reading {
     #[tactic(auto, unfolding(crate::specs::Reading::read_map))]
     pub(crate) fn map(&mut self, left: Option<&[u8]>) -> Result<(), LineFault>
         requires { IsSound self.old }
-        ensures { Takes self.old self.new (read_map (said_by self.old) (fields_left left.entry)) result }
+        ensures { TakesBy self.old self.new (λ s. read_map s (fields_left left.entry)) result }
     {
         let Some((name, left)) = next_field(left) else {
             return refused(TextKind::Line);

@@ -2,12 +2,12 @@
 //!
 //! The methods for the forms stand in `maps`, `scripts` and `commands`. Each tests in the order in
 //! which the kinds of refusal come, and its clause says that it takes what the reading function reads.
-ghost use Rattle.std.specs.Prelude.{◌≡◌, IfOk, OnOk, ◌++◌, [], ◌∷◌};
+ghost use Rattle.std.specs.Prelude.{◌≡◌, IfOk, []};
 ghost use Rattle.workload_text.specs.Grammar.{nothing};
 ghost use Rattle.workload_text.specs.View.{lines_of};
 ghost use Rattle.workload_text.specs.Reading.{read_word, read_line, read_text_line};
 ghost use Rattle.workload_text.specs.InsideCuts.{fields_left};
-ghost use Rattle.workload_text.specs.InsideState.{Takes, TakesText, IsSound, said_by, lines_by};
+ghost use Rattle.workload_text.specs.InsideState.{TakesBy, TakesText, IsSound, said_by, lines_by};
 
 use crate::cut::{is_silent, next_field, one, three};
 use crate::refusal::{LineFault, TextKind};
@@ -34,17 +34,6 @@ pub(crate) fn refused(kind: TextKind) -> Result<(), LineFault>
     ensures { result ≡ Err (LineFault.Refused kind) }
 {
     Err(LineFault::Refused(kind))
-}
-
-/// Appends an item, where need be to room for as many again as there are.
-pub(crate) fn push<T: Drop>(list: &mut List<T>, item: T) -> Result<(), OutOfMemory>
-    ensures { OnOk result (list.new.items ≡ list.old.items ++ item ∷ []) }
-{
-    if list.spare() == 0 {
-        list.reserve(list.len().max(4))?;
-    }
-    list.put(item);
-    Ok(())
 }
 
 impl Reading {
@@ -81,7 +70,7 @@ impl Reading {
 
     fn spoken(&mut self, text: &[u8]) -> Result<(), LineFault>
         requires { IsSound self.old }
-        ensures { Takes self.old self.new (read_line (said_by self.old) text.now) result }
+        ensures { TakesBy self.old self.new (λ s. read_line s text.now) result }
     {
         match next_field(Some(text)) {
             Some((word, left)) => self.word(word, left),
@@ -92,7 +81,7 @@ impl Reading {
     #[tactic(auto, unfolding(crate::specs::Reading::read_word))]
     fn word(&mut self, word: &[u8], left: Option<&[u8]>) -> Result<(), LineFault>
         requires { IsSound self.old }
-        ensures { Takes self.old self.new (read_word (said_by self.old) word.now (fields_left left.entry)) result }
+        ensures { TakesBy self.old self.new (λ s. read_word s word.now (fields_left left.entry)) result }
     {
         if word == b"load".as_slice() {
             return match three(left) {
@@ -151,7 +140,7 @@ impl Reading {
             loaded: _,
         } = self;
         if let Some(last) = current {
-            push(&mut scripts, last)?;
+            scripts.push(last)?;
         }
         Ok(Parsed {
             workload: Workload { maps, scripts },

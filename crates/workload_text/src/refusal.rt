@@ -11,7 +11,7 @@ use page_base::OutOfMemory;
 
 #[derive(Clone, Copy, Debug, PartialEq, Eq)]
 pub enum TextKind {
-    /// The text has more than 16777216 bytes.
+    /// The text has more than `MOST_TEXT_BYTES`.
     Long,
     /// The last line has no line feed.
     Unended,

@@ -3,10 +3,11 @@ ghost use Rattle.std.specs.Prelude.{◌≡◌, ◌≤◌, length, map, IsTrue, �
 ghost use Rattle.std.specs.Str.{bytes_eq};
 ghost use Rattle.std.specs.List.{list_any};
 ghost use Rattle.workload_text.specs.Reading.{read_script};
-ghost use Rattle.workload_text.specs.InsideState.{script_name, Takes, Begun, IsSound, said_by};
+ghost use Rattle.workload_text.specs.InsideState.{script_name, TakesBy, Begun, IsSound, said_by};
 
 use crate::field::is_name;
-use crate::reading::{Reading, push, refused};
+use crate::limits::MOST_SCRIPTS;
+use crate::reading::{Reading, refused};
 use crate::refusal::{LineFault, TextKind};
 use crate::workload::Script;
 use page_base::{Bytes, List};
@@ -38,15 +39,15 @@ impl Reading {
     /// No further script may begin.
     fn is_full(&self) -> bool
         requires { Begun self.now.current self.now.scripts.items }
-        ensures { IsTrue result ↔ (64 ≤ length (said_by self.now).scripts) }
+        ensures { IsTrue result ↔ (MOST_SCRIPTS ≤ length (said_by self.now).scripts) }
     {
-        self.current.is_some() && self.scripts.len() >= 63
+        self.current.is_some() && self.scripts.len() >= MOST_SCRIPTS - 1
     }
 
     #[tactic(auto, unfolding(crate::specs::Reading::read_script))]
     pub(crate) fn begin(&mut self, name: &[u8]) -> Result<(), LineFault>
         requires { IsSound self.old }
-        ensures { Takes self.old self.new (read_script (said_by self.old) name.now) result }
+        ensures { TakesBy self.old self.new (λ s. read_script s name.now) result }
     {
         if !is_name(name) {
             return refused(TextKind::Name);
@@ -62,7 +63,7 @@ impl Reading {
             commands: List::new(self.alloc),
         };
         if let Some(last) = self.current.take() {
-            push(&mut self.scripts, last)?;
+            self.scripts.push(last)?;
         }
         self.current = Some(script);
         Ok(())

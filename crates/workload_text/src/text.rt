@@ -7,12 +7,11 @@ ghost use Rattle.workload_text.specs.Accepted.{IsRunnable};
 ghost use Rattle.workload_text.specs.Answers.{IfRefused, AreMapNumbers};
 
 use crate::cut::next_line;
+use crate::limits::MOST_TEXT_BYTES;
 use crate::reading::Reading;
 use crate::refusal::{TextFault, TextKind};
 use crate::workload::Parsed;
 use std::alloc::Global;
-
-const MOST_BYTES: usize = 16777216;
 
 /// The workload that a text spells, or the first bad line with the first kind that applies to it.
 ///
@@ -23,7 +22,7 @@ pub fn parse(alloc: Global, bytes: &[u8]) -> Result<Parsed, TextFault>
     ensures numbered { IfOk result (λ p. AreMapNumbers bytes.now p.map_lines.items) }
     ensures refused { IfRefused result (λ line kind. refusal bytes.now ≡ Some (record { line = line; kind = kind })) }
 {
-    if bytes.len() > MOST_BYTES {
+    if bytes.len() > MOST_TEXT_BYTES {
         return Err(TextFault::Refused {
             line: 0,
             kind: TextKind::Long,

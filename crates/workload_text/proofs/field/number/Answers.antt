@@ -1,4 +1,4 @@
-use Rattle.std.proofs.Common.{◌≡◌, ℕ, true, refl, arith, sym}
+use Rattle.std.proofs.Common.{refl, arith, sym}
 use Rattle.workload_text.proofs.Numbers.{number_of-decimal, number_of-none, plain_is, spelling_is}
 use Rattle.workload_text.proofs.field.number.Goals as goal
 use Rattle.workload_text.proofs.field.number.Goals.{then-n-least-via-then-n-least, then-n-least-via-else-n-least+then-n-most}

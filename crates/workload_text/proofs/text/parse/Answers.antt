@@ -7,8 +7,8 @@ use Rattle.workload_text.proofs.Runnable.{runnable}
 use Rattle.workload_text.proofs.Ends.{text_taken, text_long, line_stops, line_unended}
 use Rattle.workload_text.proofs.text.parse.Goals as goal
 
-pub returns-then-bytes-gt-MOST_BYTES-clause-refused : goal.returns-then-bytes-gt-MOST_BYTES-clause-refused
-returns-then-bytes-gt-MOST_BYTES-clause-refused c = text_long c.args.bytes.now (omega arith)
+pub returns-then-bytes-gt-MOST_TEXT_BYTES-clause-refused : goal.returns-then-bytes-gt-MOST_TEXT_BYTES-clause-refused
+returns-then-bytes-gt-MOST_TEXT_BYTES-clause-refused c = text_long c.args.bytes.now (omega arith)
 
 pub loop-rest-init : goal.loop-rest-init
 loop-rest-init c = record {
