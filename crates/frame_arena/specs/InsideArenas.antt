@@ -2,6 +2,7 @@
 use Rattle.std.specs.Prelude.{ℕ, ◌≡◌, ◌+◌, ◌-◌, ◌*◌, ◌<◌, ◌≤◌, List, [], ◌∷◌, length, Vec, Option, Some, None}
 use denote.RawPtr.{Ptr, block_ptr, block_of, count_of}
 use Rattle.std_alloc.specs.declared.vec.lodged.Lodged.{Lodged}
+use Rattle.page_base.specs.declared.limits.TheConstants.{MOST_BUFFER_BYTES}
 use Rattle.frame_arena.specs.Frames.{ArenaId, FrameSeen}
 use Rattle.frame_arena.specs.InsideOwnership.{Span, IsPlaced}
 
@@ -43,7 +44,7 @@ pub record IsArena (whole : Span) (names : List ℕ) (slots : List (Option Frame
   pub size : whole.size ≡ frames * page_size
   pub some_frames : 1 ≤ frames
   pub some_bytes : 1 ≤ page_size
-  pub small : frames * page_size ≤ 1073741824
+  pub small : frames * page_size ≤ MOST_BUFFER_BYTES
   pub named : length names ≡ frames
   pub many : length slots ≡ frames
   pub shelf : IsShelf (id_of whole page_size names) 0 slots

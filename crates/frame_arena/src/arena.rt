@@ -3,7 +3,8 @@
 //! What must stay true when this file is changed: the frames that are out and those in the slots are together the block, so
 //! that `free` can put all their bytes back into the shell. `hints` are numbers of frames that were put back. They may be
 //! wrong, and cost only time then: `take` looks at the slot, and goes through all slots where no hint is right.
-ghost use Rattle.std.specs.Prelude.{◌≡◌, ◌+◌, ◌*◌, ◌<◌, ◌≤◌, [], ◌∷◌, ◌++◌, Some, None, length, replicate, All, IfOk, IfSome, IfNone, IsSome, slice_set, slice_get, slice_index_or};
+ghost use Rattle.std.specs.Prelude.{◌≡◌, ◌+◌, ◌*◌, ◌<◌, ◌≤◌, Some, None, length, replicate, All, IfOk, IfSome, IfNone, IsSome, slice_set, slice_get, slice_index_or};
+ghost use Rattle.page_base.specs.declared.limits.TheConstants.{MOST_BUFFER_BYTES};
 ghost use Rattle.frame_arena.specs.Frames.{held, home, with_slot};
 ghost use Rattle.frame_arena.specs.InsideArenas.{IsShelf};
 
@@ -91,7 +92,7 @@ impl FrameArena {
     /// answers `OutOfMemory` where that isn't there.
     pub fn new(alloc: Global, frames: u32, page_size: u32) -> Result<FrameArena, OutOfMemory>
         requires some { (1 ≤ frames) × (1 ≤ page_size) }
-        requires small { frames * page_size ≤ 1073741824 }
+        requires small { frames * page_size ≤ MOST_BUFFER_BYTES }
         ensures size { IfOk result (λ a. (a.frames ≡ frames) × (a.arena.page_size ≡ page_size)) }
         ensures home { IfOk result (λ a. home a ≡ frames) }
         ensures zeros { IfOk result (λ a. All (λ slot. IfSome slot (λ f. f.bytes ≡ replicate page_size 0)) a.slots) }
