@@ -1,0 +1,5 @@
+pub mod Counts
+pub mod Links
+pub mod Paths
+pub mod Seen
+pub mod Tied
