@@ -1,5 +1,6 @@
 -- The entries of a page table: what each says of an access, and how one changes.
-use Rattle.std.specs.Prelude.{ℕ, ◌<◌, Bool, true, false, List, [], length, map, replicate, slice_index_or, slice_set}
+use Rattle.std.specs.Prelude.{ℕ, ◌≡◌, ◌<◌, Bool, true, false, List, [], length, map, replicate, slice_index_or, slice_set, Option}
+use Rattle.page_base.specs.KeyOrder.{is_below, is_past}
 use Rattle.page_base.specs.declared.keys.Key.{Key}
 use Rattle.page_base.specs.declared.keys.RegionShape.{RegionShape}
 use Rattle.soft_mmu.specs.declared.entry.PageEntry.{PageEntry}
@@ -29,6 +30,10 @@ is_present (Present protected dirty frame) = true
 abbrev pub is_protected : PageEntry → Bool
 is_protected Absent = false
 is_protected (Present protected dirty frame) = protected
+
+abbrev pub is_dirty : PageEntry → Bool
+is_dirty Absent = false
+is_dirty (Present protected dirty frame) = dirty
 
 -- the entry, protected
 abbrev pub closed : PageEntry → PageEntry
@@ -65,3 +70,15 @@ with_entry table key entry = slice_set table key.region (slice_set (pages_of tab
 -- no page of these regions is present
 abbrev pub no_pages : List RegionShape → List (List PageEntry)
 no_pages shapes = map (λ (s : RegionShape). replicate s.pages Absent) shapes
+
+-- ---- the dirty pages in order of key
+
+-- the page is dirty and past the key, and no other such page comes before it
+pub record IsNextDirty (table : List (List PageEntry)) (after : Option Key) (key : Key) : Type 0 where
+  pub dirty : is_dirty (entry_of table key) ≡ true
+  pub past : is_past after key ≡ true
+  pub least : (other : Key) → is_dirty (entry_of table other) ≡ true → is_past after other ≡ true → is_below other key ≡ false
+
+-- no page past the key is dirty
+abbrev pub NoneDirty : List (List PageEntry) → Option Key → Type 0
+NoneDirty table after = (key : Key) → is_past after key ≡ true → is_dirty (entry_of table key) ≡ false

@@ -38,11 +38,8 @@ pub enum Found {
     Protected,
 }
 
-// The table keeps eight bytes a page.
-const _: () = prove!(size_of::<PageEntry>() == 8);
-
 impl PageEntry {
-    ghost use Rattle.soft_mmu.specs.Entries.{translation, bits_of, closed, opened, cleaned};
+    ghost use Rattle.soft_mmu.specs.Entries.{translation, bits_of, is_present, is_dirty, closed, opened, cleaned};
 
     /// What an access of the page finds.
     pub(crate) fn translate(self, wants: Wants) -> Found
@@ -78,6 +75,20 @@ impl PageEntry {
                 dirty,
             },
         }
+    }
+
+    /// The page is in memory.
+    pub(crate) fn is_present(self) -> bool
+        ensures { result ≡ is_present self }
+    {
+        self.bits().present
+    }
+
+    /// The page is in memory, and newer there than in the store.
+    pub(crate) fn is_dirty(self) -> bool
+        ensures { result ≡ is_dirty self }
+    {
+        self.bits().dirty
     }
 
     /// The entry, protected.

@@ -1,29 +1,20 @@
-//! The page table: one vector of entries per region.
+//! The page table: for each region a directory of leaves.
 //!
-//! Contracts see the list of lists alone, so that the vectors can give way to two levels without a change of a clause.
-ghost use Rattle.std.specs.Prelude.{◌≡◌, ◌<◌, ◌≤◌, IsTrue, IfOk, sum_by};
+//! Contracts see the list of lists of entries alone, so that the levels can change without a change of a clause.
+ghost use Rattle.std.specs.Prelude.{◌≡◌, ◌<◌, ◌≤◌, IsTrue, IfOk, IfSome, IfNone, length, sum_by, count_by};
+ghost use Rattle.page_base.specs.declared.limits.TheConstants.{MOST_PAGES};
 ghost use Rattle.soft_mmu.specs.declared.entry.PageEntry.TheVariants.{Absent, Present};
-ghost use Rattle.soft_mmu.specs.Entries.{translation, bits_of, is_present, is_protected, closed, opened, cleaned, entry_of, HasPage, with_entry, no_pages};
+ghost use Rattle.soft_mmu.specs.InsideLeaves.{place_behind};
+ghost use Rattle.soft_mmu.specs.Entries.{translation, bits_of, is_present, is_protected, is_dirty, closed, opened, cleaned, pages_of, entry_of, HasPage, with_entry, no_pages, IsNextDirty, NoneDirty};
 
 use crate::entry::{Bits, Found, PageEntry, Wants};
+use crate::region::RegionPages;
 use page_base::{Key, List, OutOfMemory, RegionShape};
 use std::alloc::Global;
 use std::marker::Model;
 
-/// The entries of one region, in order of page.
-#[derive(Drop)]
-struct RegionPages {
-    entries: Vec<PageEntry>,
-}
-
-impl Model for RegionPages {
-    ghost use Rattle.std.specs.Prelude.{List};
-    ghost use Rattle.soft_mmu.specs.declared.entry.PageEntry.{PageEntry};
-
-    ghost Value = { List PageEntry };
-
-    ghost view = { λ p. p.entries.items };
-}
+/// As many regions as a key can number.
+const REGION_NUMBERS: usize = 65536;
 
 /// The entries of all pages of a stripe's regions.
 #[derive(Drop)]
@@ -32,25 +23,29 @@ pub struct PageTable {
 }
 
 impl Model for PageTable {
-    ghost use Rattle.std.specs.Prelude.{List};
+    ghost use Rattle.std.specs.Prelude.{◌≤◌, List, length};
     ghost use Rattle.soft_mmu.specs.declared.entry.PageEntry.{PageEntry};
+    ghost use Rattle.soft_mmu.specs.declared.table.TheConstants.{REGION_NUMBERS};
 
     ghost Value = { List (List PageEntry) };
 
     ghost view = { λ t. t.regions.items };
+
+    ghost invariant = { λ t. length t.regions.items ≤ REGION_NUMBERS };
 }
 
 impl PageTable {
     /// A table of the regions' pages. It takes 8 bytes a page, and all memory that the table ever takes.
     pub fn new(alloc: Global, shapes: &List<RegionShape>) -> Result<PageTable, OutOfMemory>
-        requires few { sum_by (λ s. s.pages) shapes.now.items ≤ 1048576 }
+        requires few { sum_by (λ s. s.pages) shapes.now.items ≤ MOST_PAGES }
         ensures absent { IfOk result (λ t. t ≡ no_pages shapes.now.items) }
     {
-        let mut regions = Vec::new(alloc);
+        if shapes.len() > REGION_NUMBERS {
+            return Err(OutOfMemory);
+        }
+        let mut regions = Vec::with_capacity(alloc, shapes.len()).map_err(|_| OutOfMemory)?;
         for shape in shapes.as_slice() {
-            let pages = shape.pages as usize;
-            let entries = vec![in alloc; PageEntry::Absent; pages].map_err(|_| OutOfMemory)?;
-            let region = RegionPages { entries };
+            let region = RegionPages::absent(alloc, shape.pages)?;
             regions.push(region).map_err(|_| OutOfMemory)?;
         }
         Ok(PageTable { regions })
@@ -125,12 +120,50 @@ impl PageTable {
         self.set(key, PageEntry::Absent);
     }
 
+    /// The number of a region's present pages.
+    pub fn present_in(&self, region: u16) -> u32
+        requires region { region < length self.now }
+        ensures exact { result ≡ count_by is_present (pages_of self.now region) }
+    {
+        let pages = &self.regions[region as usize];
+        pages.present()
+    }
+
+    /// The number of a region's dirty pages.
+    pub fn dirty_in(&self, region: u16) -> u32
+        requires region { region < length self.now }
+        ensures exact { result ≡ count_by is_dirty (pages_of self.now region) }
+    {
+        let pages = &self.regions[region as usize];
+        pages.dirty()
+    }
+
+    /// The least dirty page above a key, of all where none is given. It walks on from behind the key and passes over leaves
+    /// and regions in which no page is dirty, so that going from each dirty page to the next walks the table once.
+    pub fn next_dirty(&self, after: Option<Key>) -> Option<Key>
+        ensures next { IfSome result (λ k. IsNextDirty self.now after k) }
+        ensures none { IfNone result (NoneDirty self.now after) }
+    {
+        let (first, mut from) = behind(after);
+        for region in first..self.regions.len() {
+            let pages = &self.regions[region];
+            if let Some(page) = pages.next_dirty(from) {
+                return Some(Key {
+                    region: region as u16,
+                    page,
+                });
+            }
+            from = 0;
+        }
+        None
+    }
+
     fn entry(&self, key: Key) -> PageEntry
         requires page { HasPage self.now key }
         ensures exact { result ≡ entry_of self.now key }
     {
         let pages = &self.regions[key.region as usize];
-        pages.entries[key.page as usize]
+        pages.entry(key.page)
     }
 
     fn set(&mut self, key: Key, entry: PageEntry)
@@ -138,7 +171,17 @@ impl PageTable {
         ensures entry { self.new ≡ with_entry self.old key entry }
     {
         let pages = &mut self.regions[key.region as usize];
-        pages.entries[key.page as usize] = entry;
+        pages.set(key.page, entry);
+    }
+}
+
+/// Where a walk past a key begins: a region, and a page there.
+fn behind(after: Option<Key>) -> (usize, usize)
+    ensures { result ≡ place_behind after }
+{
+    match after {
+        None => (0, 0),
+        Some(key) => (key.region as usize, key.page as usize + 1),
     }
 }
 
@@ -192,6 +235,52 @@ mod tests {
                 dirty: false
             }
         );
+        Ok(())
+    }
+
+    /// The last page of a first leaf, the one page of a second, and a page of the next region: found, counted, and dirty in
+    /// order of key.
+    #[test]
+    fn a_second_leaf_is_used(rt: HostRuntime) -> Result<(), Fail> {
+        let mut shapes = List::new(rt.alloc());
+        shapes.reserve(2)?;
+        shapes.put(RegionShape {
+            pages: 513,
+            group: 1,
+            writable: true,
+        });
+        shapes.put(RegionShape {
+            pages: 1,
+            group: 1,
+            writable: true,
+        });
+        let mut table = PageTable::new(rt.alloc(), &shapes)?;
+        let last = Key {
+            region: 0,
+            page: 511,
+        };
+        let beyond = Key {
+            region: 0,
+            page: 512,
+        };
+        let other = Key { region: 1, page: 0 };
+        assert_eq!(rt; table.next_dirty(None), None);
+        table.install(other, 3, false, true);
+        table.install(beyond, 2, false, true);
+        table.install(last, 1, false, true);
+        assert_eq!(rt; table.translate(last, Wants::Write), Found::Hit(1));
+        assert_eq!(rt; table.translate(beyond, Wants::Write), Found::Hit(2));
+        assert_eq!(rt; table.translate(other, Wants::Write), Found::Hit(3));
+        assert_eq!(rt; table.present_in(0), 2);
+        assert_eq!(rt; table.next_dirty(None), Some(last));
+        assert_eq!(rt; table.next_dirty(Some(last)), Some(beyond));
+        assert_eq!(rt; table.next_dirty(Some(beyond)), Some(other));
+        assert_eq!(rt; table.next_dirty(Some(other)), None);
+        table.mark_clean(beyond);
+        assert_eq!(rt; table.dirty_in(0), 1);
+        assert_eq!(rt; table.next_dirty(Some(last)), Some(other));
+        table.remove(last);
+        assert_eq!(rt; table.present_in(0), 1);
         Ok(())
     }
 }

@@ -1,0 +1,5 @@
+mod Leaves
+mod NextDirty
+mod Regions
+mod Search
+mod Words
