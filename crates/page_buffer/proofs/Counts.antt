@@ -1,5 +1,5 @@
 -- How many items pass a test, when one item changes.
-use Rattle.std.proofs.Common.{◌≡◌, ℕ, zero, suc, ◌+◌, ◌<◌, ◌≤◌, Bool, true, false, not, cond, List, [], ◌∷◌, ◌++◌, length, filter, refl, ap, arith}
+use Rattle.std.proofs.Common.{◌≡◌, ℕ, zero, suc, ◌+◌, ◌<◌, ◌≤◌, Bool, true, false, not, cond, ◌||◌, List, [], ◌∷◌, ◌++◌, length, filter, refl, ap, arith}
 use Rattle.std.specs.Prelude.{count_by, slice_index_or, slice_set}
 use Rattle.std.specs.List.{list_any}
 use Rattle.std.proofs.lemmas.List.Sums.{sum_by-append, sum_by-cons, sum_by-set, count_by-le-length}
@@ -34,16 +34,6 @@ count_by-misses p [] i d within fails = absurd (omega arith)
 count_by-misses p (y ∷ ys) zero d within fails = let cons = count_by-cons p y ys in let counts : one (p y) ≡ 0 = ap one fails in let rest = count_by-le-length p ys in omega arith
 count_by-misses p (y ∷ ys) (suc i) d within fails = let cons = count_by-cons p y ys in let rest = count_by-misses p ys i d (omega arith) fails in let first = one-le (p y) in omega arith
 
--- a test that is harder to pass counts no more
-pub count_by-mono : {X : Type 0} (p q : X → Bool) (xs : List X) → ((x : X) → one (p x) ≤ one (q x)) → count_by p xs ≤ count_by q xs
-count_by-mono p q [] le = omega arith
-count_by-mono p q (x ∷ xs) le =
-    let rest = count_by-mono p q xs le in
-    let here = le x in
-    let left = count_by-cons p x xs in
-    let right = count_by-cons q x xs in
-    omega arith
-
 -- where none passes, none counts
 pub count_by-none : {X : Type 0} (p : X → Bool) (xs : List X) → list_any p xs ≡ false → count_by p xs ≡ 0
 count_by-none p [] none = refl
@@ -74,3 +64,28 @@ length-without p (x ∷ xs) = by_test (p x) refl _ (length-without p xs)
     by_test : (b : Bool) → p x ≡ b → (rest : List _) → length rest + count_by p xs ≡ length xs → length (cond (not b) (x ∷ rest) rest) + count_by p (x ∷ xs) ≡ suc (length xs)
     by_test true e rest whole = let cons = count_by-cons p x xs in let counts : one (p x) ≡ 1 = ap one e in omega arith
     by_test false e rest whole = let cons = count_by-cons p x xs in let counts : one (p x) ≡ 0 = ap one e in omega arith
+
+-- two items that pass count as two
+pub count_by-two : {X : Type 0} (p : X → Bool) (xs : List X) (i j : ℕ) (d : X) → i < j → j < length xs → p (slice_index_or xs i d) ≡ true → p (slice_index_or xs j d) ≡ true → 2 ≤ count_by p xs
+count_by-two p [] i j d apart within first second = absurd (omega arith)
+count_by-two p (x ∷ xs) zero zero d apart within first second = absurd (omega arith)
+count_by-two p (x ∷ xs) zero (suc j) d apart within first second = let cons = count_by-cons p x xs in let counts : one (p x) ≡ 1 = ap one first in let rest = count_by-has p xs j d (omega arith) second in omega arith
+count_by-two p (x ∷ xs) (suc i) zero d apart within first second = absurd (omega arith)
+count_by-two p (x ∷ xs) (suc i) (suc j) d apart within first second = let cons = count_by-cons p x xs in let rest = count_by-two p xs i j d (omega arith) (omega arith) first second in omega arith
+
+-- whether one passes, by the count
+pub list_any-none : {X : Type 0} (p : X → Bool) (xs : List X) → count_by p xs ≡ 0 → list_any p xs ≡ false
+list_any-none p [] none = refl
+list_any-none p (x ∷ xs) none = by_test (p x) refl (list_any-none p xs)
+  where
+    by_test : (b : Bool) → p x ≡ b → (count_by p xs ≡ 0 → list_any p xs ≡ false) → (b || list_any p xs) ≡ false
+    by_test true e rest = let cons = count_by-cons p x xs in let counts : one (p x) ≡ 1 = ap one e in absurd (omega arith)
+    by_test false e rest = let cons = count_by-cons p x xs in rest (omega arith)
+
+pub list_any-some : {X : Type 0} (p : X → Bool) (xs : List X) → 1 ≤ count_by p xs → list_any p xs ≡ true
+list_any-some p [] some = absurd (omega arith)
+list_any-some p (x ∷ xs) some = by_test (p x) refl (list_any-some p xs)
+  where
+    by_test : (b : Bool) → p x ≡ b → (1 ≤ count_by p xs → list_any p xs ≡ true) → (b || list_any p xs) ≡ true
+    by_test true e rest = refl
+    by_test false e rest = let cons = count_by-cons p x xs in let counts : one (p x) ≡ 0 = ap one e in rest (omega arith)

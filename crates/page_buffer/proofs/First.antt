@@ -1,11 +1,11 @@
 -- The first item that a test passes is the one that `find` gives, where the test computes.
-use Rattle.std.proofs.Common.{◌≡◌, ◌∙◌, ℕ, ◌<◌, Bool, true, false, List, [], ◌∷◌, length, take, find, Some, None, All, refl, sym, ap, arith}
+use Rattle.std.proofs.Common.{◌≡◌, ◌∙◌, ℕ, ◌<◌, Bool, true, false, List, [], ◌∷◌, length, find, Some, None, All, refl, sym, ap, arith}
 use Rattle.std.specs.Prelude.{slice_index_or}
 use Rattle.std.specs.List.{position_or_len, slice_get}
 use Rattle.std.proofs.lemmas.List.{get_or-take, get_or_default, length-take-le}
 use Rattle.std.proofs.lemmas.List.Sums.{position_or_len_is}
 use Rattle.std.proofs.lemmas.List.Folds.{find_at}
-use Rattle.std.proofs.lemmas.Option.{slice_get-get_or, slice_get_within, slice_get_past, get_or_from_slice_get}
+use Rattle.std.proofs.lemmas.Option.{slice_get_within, slice_get_past, get_or_from_slice_get}
 use Rattle.page_base.specs.declared.keys.Key.{Key}
 use Rattle.page_buffer.specs.Buffers.{IsFirst, Computes}
 
@@ -26,7 +26,3 @@ find-nothing answers passes [] computes none = refl
 find-nothing answers passes (x ∷ xs) computes none =
     let place : position_or_len passes (x ∷ xs) ≡ length (x ∷ xs) = position_or_len_is passes (x ∷ xs) (length (x ∷ xs)) x (omega arith) (λ k lt. fails answers passes (x ∷ xs) computes k x lt (none k x lt)) (λ lt. absurd (omega arith)) in
     find_at passes (x ∷ xs) ∙ slice_get_past (x ∷ xs) _ (omega (arith, place))
-
--- where the items before a place fail and the one there passes, it is the first
-pub first_at : (answers : Key → Bool → Type 0) (xs : List Key) (i : ℕ) (d : Key) → All (λ (x : Key). answers x false) (take i xs) → i < length xs → answers (slice_index_or xs i d) true → IsFirst answers xs (slice_index_or xs i d)
-first_at answers xs i d before within passes = record { place = i; is = slice_get-get_or xs i d within; passes = passes; before = before }

@@ -1,23 +1,20 @@
 -- A new buffer: every frame is free, and the free list has them all.
-use Rattle.std.proofs.Common.{◌≡◌, Bool, ℕ, ◌+◌, ◌*◌, ◌<◌, List, [], ◌∷◌, ◌++◌, length, replicate, sym, ap, below_more, ◌∙◌, arith, length-append}
+use Rattle.std.proofs.Common.{◌≡◌, ◌⊎◌, inl, inr, Bool, ℕ, ◌+◌, ◌*◌, ◌<◌, ◌≤◌, List, [], ◌∷◌, ◌++◌, length, replicate, refl, sym, ap, below_more, ◌∙◌, arith, length-append}
 use Rattle.std.specs.Prelude.{count_by, slice_index_or}
-use Rattle.std.proofs.lemmas.List.{get_or_append_left, get_or_push, get_or-replicate, length-replicate, length-map}
-use Rattle.std.proofs.Math.Seq.{get_or-append_seam}
+use Rattle.std.proofs.lemmas.List.{get_or_append_left, get_or_push, get_or-replicate, length-replicate, length-map, get_or_past}
 use Rattle.std.proofs.lemmas.List.Folds.{sum_by-replicate}
+use Rattle.std.proofs.lemmas.Bool.{cases_lt}
+use Rattle.frame_arena.specs.Frames.{ArenaSeen}
+use Rattle.index_lists.specs.Lists.{all_empty}
 use Rattle.page_buffer.specs.declared.frame.Frame.{Frame}
 use Rattle.page_buffer.specs.Frames.{FrameSeen, Free, is_free, is_resident, is_for}
-use Rattle.page_buffer.specs.InsideFrames.{is_page}
-use Rattle.page_buffer.specs.Insides.{frame_seen, frames_seen, IsOrdered, IsListed, IsSound}
+use Rattle.page_buffer.specs.Insides.{frame_seen, frames_seen, HasAll, IsOrdered, IsListed, IsSound}
 use Rattle.page_buffer.proofs.Counts.{one}
 
 -- the list is 0, 1, .. below n
 pub record AreFirst (free : List ℕ) (n : ℕ) : Type 0 where
   pub many : length free ≡ n
   pub named : (i d : ℕ) → i < n → slice_index_or free i d ≡ i
-
--- each room is one page
-pub record AreSized (frames : List Frame) (page_size : ℕ) : Type 0 where
-  pub each : (i : ℕ) (d : Frame) → i < length frames → length (slice_index_or frames i d).bytes.items ≡ page_size
 
 pub are_first-push : (free : List ℕ) (n : ℕ) → AreFirst free n → AreFirst (free ++ n ∷ []) (n + 1)
 are_first-push free n a = record {
@@ -30,25 +27,19 @@ are_first-push free n a = record {
       i lt;
 }
 
-pub are_sized-push : (frames : List Frame) (page_size : ℕ) (new : Frame) → AreSized frames page_size → length new.bytes.items ≡ page_size → AreSized (frames ++ new ∷ []) page_size
-are_sized-push frames page_size new a size = record {
-  each =
-      λ i d lt.
-      below_more (λ k. length (slice_index_or (frames ++ new ∷ []) k d).bytes.items ≡ page_size) (length frames)
-      (λ k below. rw (get_or_append_left frames (new ∷ []) d k below) (a.each k d below))
-      (rw (get_or-append_seam frames new [] d) size)
-      i (rw (length-append frames (new ∷ [])) at lt);
-}
-
 count_by-frees : (p : FrameSeen → Bool) (n : ℕ) → count_by p (replicate n Free) ≡ n * one (p Free)
 count_by-frees p n = sum_by-replicate (λ x. one (p x)) n Free
 
 ordered_new : (n : ℕ) → IsOrdered (replicate n Free) []
 ordered_new n = record {
-  once = λ k. let none = count_by-frees (is_for k) n in omega arith;
-  ordered = λ k. let none = count_by-frees (is_page k) n in omega arith;
+  once = λ k. (let none = count_by-frees (is_for k) n in omega arith);
+  placed = λ f. placed f (cases_lt f n);
   residents = let none = count_by-frees is_resident n in omega arith;
 }
+  where
+    placed : (f : ℕ) → (f < n) ⊎ (n ≤ f) → 0 ≡ one (is_resident (slice_index_or (replicate n Free) f Free))
+    placed f (inl within) = ap (λ (x : FrameSeen). one (is_resident x)) (sym (get_or-replicate n f Free Free within))
+    placed f (inr past) = ap (λ (x : FrameSeen). one (is_resident x)) (sym (get_or_past (replicate n Free) f Free (rw (length-replicate n Free) past)))
 
 listed_new : (free : List ℕ) (n : ℕ) → AreFirst free n → IsListed (replicate n Free) free
 listed_new free n a = record {
@@ -58,11 +49,14 @@ listed_new free n a = record {
   apart = λ i j d lt within e. let first = a.named i d (omega (arith, a.many)) in let second = a.named j d (omega (arith, a.many)) in omega (arith, e);
 }
 
--- the frames are free, each room is one page, and the free list has all
-pub sound_new : (frames : List Frame) (free : List ℕ) (quota page_size : ℕ) → quota < 4294967296 → frames_seen frames ≡ replicate quota Free → AreSized frames page_size → AreFirst free quota → IsSound frames [] free page_size
-sound_new frames free quota page_size small seen sizes list = record {
-  few = let many : length frames ≡ quota = sym (length-map frames frame_seen) ∙ ap length seen ∙ length-replicate quota Free in omega arith;
-  sizes = sizes.each;
-  pages = rw seen (ordered_new quota);
-  room = rw seen (listed_new free quota list);
-}
+pub sound_new : (arena : ArenaSeen) (frames : List Frame) (free : List ℕ) (quota : ℕ) → quota < 4294967296 → HasAll arena frames → frames_seen frames ≡ replicate quota Free → AreFirst free quota → IsSound arena frames (all_empty 1 quota) free 0
+sound_new arena frames free quota small all seen list =
+    let many : length frames ≡ quota = sym (length-map frames frame_seen) ∙ ap length seen ∙ length-replicate quota Free in
+    record {
+      few = omega arith;
+      rooms = all;
+      linked = record { numbers = sym many; one = refl };
+      pages = rw seen (ordered_new quota);
+      counted = refl;
+      list = rw seen (listed_new free quota list);
+    }

@@ -1,19 +1,21 @@
 -- The same of the frames as they lie in memory: what a frame's room holds, and a buffer whose one room changes.
-use Rattle.std.proofs.Common.{◌≡◌, ℕ, ◌+◌, ◌<◌, ◌≤◌, Bool, true, false, List, [], ◌∷◌, ◌++◌, take, drop, length, ◌⊎◌, inl, inr, refl, sym, ap, ◌∙◌, arith, length-set, get_or-set_same, get_or-set_other}
-use Rattle.std.specs.Prelude.{count_by, slice_index_or, slice_set}
+use Rattle.std.proofs.Common.{◌≡◌, ℕ, ◌+◌, ◌-◌, ◌<◌, ◌≤◌, Bool, true, false, List, [], ◌∷◌, ◌++◌, ◌==◌, length, ◌⊎◌, inl, inr, refl, sym, ap, ◌∙◌, arith, length-set, get_or-set_same, get_or-set_other, length-append}
+use Rattle.std.specs.Prelude.{count_by, slice_index_or, slice_set, map}
 use Rattle.std.specs.List.{list_any}
-use Rattle.std.specs.Vec.{with_items}
 use Rattle.std.proofs.lemmas.List.{map-set, length-map, get_or-map, get_or_past}
+use Rattle.std.proofs.lemmas.List.Elements.{All-get_or, All-from_get_or}
 use Rattle.std.proofs.lemmas.Bool.{cases_eq, cases_lt}
 use Rattle.page_base.specs.declared.keys.Key.{Key}
-use Rattle.page_buffer.specs.Frames.{FrameSeen, with_bytes, Free, Reserved, Resident, is_free, is_reserved, is_resident, is_for}
-use Rattle.page_buffer.specs.Buffers.{without}
+use Rattle.frame_arena.specs.Frames.{ArenaSeen}
+use Rattle.frame_arena.specs.Frames as arena_frame
+use Rattle.index_lists.specs.Lists.{ListsSeen, list_at, stands, has, without, pushed, removed}
+use Rattle.page_buffer.specs.Frames.{FrameSeen, with_bytes, refilled, Free, Reserved, Resident, is_free, is_reserved, is_resident, is_for}
 use Rattle.page_buffer.specs.declared.frame.Use.{Use}
 use Rattle.page_buffer.specs.declared.frame.Use.TheVariants as in_use
 use Rattle.page_buffer.specs.declared.frame.Frame.{Frame}
-use Rattle.page_buffer.specs.Insides.{seen_as, frame_seen, frames_seen, IsSized, IsOrdered, IsListed, IsSound}
-use Rattle.page_buffer.proofs.Counts.{one, count_by-cons, count_by-misses}
-use Rattle.page_buffer.proofs.Sound.{Holds, last_held, listed_popped, listed_pushed, listed_kept, ordered_reserved, ordered_unreserved, ordered_filled, ordered_written, ordered_released}
+use Rattle.page_buffer.specs.Insides.{seen_as, frame_seen, frames_seen, HasAll, IsOrdered, IsLinked, IsListed, IsSound}
+use Rattle.page_buffer.proofs.Counts.{one, count_by-cons, count_by-misses, length-without, list_any-none, list_any-some}
+use Rattle.page_buffer.proofs.Sound.{Holds, placed_in, placed_once, last_held, listed_popped, listed_pushed, listed_kept, ordered_reserved, ordered_unreserved, ordered_filled, ordered_written, ordered_released}
 
 -- the room of frame f
 pub record IsRoom (frames : List Frame) (f : ℕ) (room : Frame) : Type 0 where
@@ -40,31 +42,59 @@ room_of test frames f room fails passes is = by_place (cases_lt f (length frames
         let passes' : test Free ≡ true = rw free at passes in
         absurd (cc (fails, passes'))
 
-pub room_size : (frames : List Frame) (page_size f : ℕ) (room : Frame) → IsSized frames page_size → IsRoom frames f room → length room.bytes.items ≡ page_size
-room_size frames page_size f room s r = ap (λ (x : Frame). length x.bytes.items) r.is ∙ s f room r.within
+-- its bytes are one page of the arena
+pub room_mine : (arena : ArenaSeen) (frames : List Frame) (f : ℕ) (room : Frame) → HasAll arena frames → IsRoom frames f room → room.page.arena ≡ arena.arena
+room_mine arena frames f room all r = ap (λ (x : Frame). x.page.arena) r.is ∙ All-get_or (λ (x : Frame). x.page.arena ≡ arena.arena) frames f room r.within all.mine
 
--- one room changes
-pub sound_set : (frames : List Frame) (order after : List Key) (free left : List ℕ) (page_size f : ℕ) (room new : Frame)
-    → IsSound frames order free page_size → IsRoom frames f room → length new.bytes.items ≡ page_size
-    → IsOrdered (slice_set (frames_seen frames) f (frame_seen new)) after → IsListed (slice_set (frames_seen frames) f (frame_seen new)) left
-    → IsSound (slice_set frames f new) after left page_size
-sound_set frames order after free left page_size f room new s r size pages listed = record {
+-- ---- the order, as the one list over the numbers of the frames
+
+one_list : (lists : ListsSeen) (frames : ℕ) (list : List ℕ) → IsLinked lists frames → slice_set lists.lists 0 list ≡ list ∷ []
+one_list lists frames list l = ap (λ (ls : List (List ℕ)). slice_set ls 0 list) l.one
+
+pub linked_pushed : (lists : ListsSeen) (frames f : ℕ) → IsLinked lists frames → IsLinked (pushed lists 0 f) frames × (list_at (pushed lists 0 f) 0 ≡ list_at lists 0 ++ f ∷ [])
+linked_pushed lists frames f l =
+    let e = one_list lists frames (list_at lists 0 ++ f ∷ []) l in
+    let at : list_at (pushed lists 0 f) 0 ≡ list_at lists 0 ++ f ∷ [] = ap (λ (ls : List (List ℕ)). slice_index_or ls 0 []) e in
+    (record { numbers = l.numbers; one = e ∙ ap (λ (xs : List ℕ). xs ∷ []) (sym at) }, at)
+
+pub linked_removed : (lists : ListsSeen) (frames f : ℕ) → IsLinked lists frames → IsLinked (removed lists f) frames × (list_at (removed lists f) 0 ≡ without f (list_at lists 0))
+linked_removed lists frames f l =
+    let e : map (without f) lists.lists ≡ without f (list_at lists 0) ∷ [] = ap (map (without f)) l.one in
+    let at : list_at (removed lists f) 0 ≡ without f (list_at lists 0) = ap (λ (ls : List (List ℕ)). slice_index_or ls 0 []) e in
+    (record { numbers = l.numbers; one = e ∙ ap (λ (xs : List ℕ). xs ∷ []) (sym at) }, at)
+
+pub stands_not : (lists : ListsSeen) (frames f : ℕ) → IsLinked lists frames → placed_in f (list_at lists 0) ≡ 0 → stands lists f ≡ false
+stands_not lists frames f l none = ap (list_any (has f)) l.one ∙ ap (λ (b : Bool). list_any (λ (t : Bool). t) (b ∷ [])) (list_any-none (λ other. other == f) (list_at lists 0) none)
+
+pub stands_so : (lists : ListsSeen) (frames f : ℕ) → IsLinked lists frames → placed_in f (list_at lists 0) ≡ 1 → stands lists f ≡ true
+stands_so lists frames f l there = ap (list_any (has f)) l.one ∙ ap (λ (b : Bool). list_any (λ (t : Bool). t) (b ∷ [])) (list_any-some (λ other. other == f) (list_at lists 0) (omega arith))
+
+-- ---- one room changes
+
+pub sound_set : (arena : ArenaSeen) (frames : List Frame) (lists after : ListsSeen) (free left : List ℕ) (resident then f : ℕ) (room new : Frame)
+    → IsSound arena frames lists free resident → IsRoom frames f room → new.page.arena ≡ room.page.arena → IsLinked after (length frames)
+    → IsOrdered (slice_set (frames_seen frames) f (frame_seen new)) (list_at after 0) → then ≡ length (list_at after 0) → IsListed (slice_set (frames_seen frames) f (frame_seen new)) left
+    → IsSound arena (slice_set frames f new) after left then
+sound_set arena frames lists after free left resident then f room new s r same linked pages counted listed = record {
   few = rw (length-set frames f new) s.few;
-  sizes = λ i d lt. size_of i d (rw (length-set frames f new) at lt) (cases_eq i f);
+  rooms = record {
+    out = s.rooms.out;
+    many = length-set frames f new ∙ s.rooms.many;
+    mine = All-from_get_or (λ (x : Frame). x.page.arena ≡ arena.arena) (slice_set frames f new) room (λ i lt. mine i (rw (length-set frames f new) at lt) (cases_eq i f));
+  };
+  linked = rw (length-set frames f new) linked;
   pages = rw (map-set frame_seen frames f new) pages;
-  room = rw (map-set frame_seen frames f new) listed;
+  counted = counted;
+  list = rw (map-set frame_seen frames f new) listed;
 }
   where
-    size_of : (i : ℕ) (d : Frame) → i < length frames → (i ≡ f) ⊎ (i ≡ f → ⊥) → length (slice_index_or (slice_set frames f new) i d).bytes.items ≡ page_size
-    size_of i d lt (inl e) = ap (λ (x : Frame). length x.bytes.items) (ap (λ j. slice_index_or (slice_set frames f new) j d) e ∙ get_or-set_same frames f new d r.within) ∙ size
-    size_of i d lt (inr differs) = ap (λ (x : Frame). length x.bytes.items) (get_or-set_other frames f i new d differs) ∙ s.sizes i d lt
+    mine : (i : ℕ) → i < length frames → (i ≡ f) ⊎ (i ≡ f → ⊥) → (slice_index_or (slice_set frames f new) i room).page.arena ≡ arena.arena
+    mine i lt (inl e) = ap (λ (x : Frame). x.page.arena) (ap (λ j. slice_index_or (slice_set frames f new) j room) e ∙ get_or-set_same frames f new room r.within) ∙ (same ∙ room_mine arena frames f room s.rooms r)
+    mine i lt (inr differs) = ap (λ (x : Frame). x.page.arena) (get_or-set_other frames f i new room differs) ∙ All-get_or (λ (x : Frame). x.page.arena ≡ arena.arena) frames i room lt s.rooms.mine
 
--- there is room on the free list for a frame that isn't free, and in the order for a page that isn't resident
+-- there is room on the free list for a frame that isn't free
 pub room_on_list : (frames : List FrameSeen) (free : List ℕ) (f : ℕ) (x : FrameSeen) → IsListed frames free → Holds frames f x → is_free x ≡ false → length free < length frames
 room_on_list frames free f x s at other = let fewer = count_by-misses is_free frames f Free at.within (rw at.is other) in let frees = s.frees in omega arith
-
-pub room_in_order : (frames : List FrameSeen) (order : List Key) (f : ℕ) (x : FrameSeen) → IsOrdered frames order → Holds frames f x → is_resident x ≡ false → length order < length frames
-room_in_order frames order f x s at other = let fewer = count_by-misses is_resident frames f Free at.within (rw at.is other) in let residents = s.residents in omega arith
 
 -- the room of a reserved frame, and of a resident page
 pub record IsReservedRoom (frames : List Frame) (f : ℕ) (room : Frame) : Type 0 where
@@ -77,7 +107,7 @@ pub record IsResidentRoom (frames : List Frame) (f : ℕ) (room : Frame) : Type 
   pub place : IsRoom frames f room
   pub key : Key
   pub used : room.used ≡ in_use.Resident key
-  pub holds : Holds (frames_seen frames) f (Resident key room.bytes.items)
+  pub holds : Holds (frames_seen frames) f (Resident key room.page.bytes)
 
 reserved_used : (u : Use) (bytes : List ℕ) → is_reserved (seen_as u bytes) ≡ true → (key : Key) × (u ≡ in_use.Reserved key)
 reserved_used in_use.Free bytes e = cc
@@ -92,57 +122,66 @@ resident_used (in_use.Resident key) bytes e = (key, refl)
 pub reserved_room : (frames : List Frame) (f : ℕ) (room : Frame) → is_reserved (slice_index_or (frames_seen frames) f Free) ≡ true → room ≡ slice_index_or frames f room → IsReservedRoom frames f room
 reserved_room frames f room passes is =
     let r = room_of is_reserved frames f room refl passes is in
-    let which = reserved_used room.used room.bytes.items r.1 in
+    let which = reserved_used room.used room.page.bytes r.1 in
     let at = holds frames f room r.0 in
-    record { place = r.0; key = which.0; used = which.1; holds = record { within = at.within; is = at.is ∙ ap (λ (u : Use). seen_as u room.bytes.items) which.1 } }
+    record { place = r.0; key = which.0; used = which.1; holds = record { within = at.within; is = at.is ∙ ap (λ (u : Use). seen_as u room.page.bytes) which.1 } }
 
 pub resident_room : (frames : List Frame) (f : ℕ) (room : Frame) → is_resident (slice_index_or (frames_seen frames) f Free) ≡ true → room ≡ slice_index_or frames f room → IsResidentRoom frames f room
 resident_room frames f room passes is =
     let r = room_of is_resident frames f room refl passes is in
-    let which = resident_used room.used room.bytes.items r.1 in
+    let which = resident_used room.used room.page.bytes r.1 in
     let at = holds frames f room r.0 in
-    record { place = r.0; key = which.0; used = which.1; holds = record { within = at.within; is = at.is ∙ ap (λ (u : Use). seen_as u room.bytes.items) which.1 } }
+    record { place = r.0; key = which.0; used = which.1; holds = record { within = at.within; is = at.is ∙ ap (λ (u : Use). seen_as u room.page.bytes) which.1 } }
 
 -- ---- the changes
 
-pub sound_unreserved : (frames : List Frame) (order : List Key) (free : List ℕ) (page_size f : ℕ) (room : Frame) → IsSound frames order free page_size → IsReservedRoom frames f room
-    → IsSound (slice_set frames f (record room { used = in_use.Free })) order (free ++ f ∷ []) page_size
-sound_unreserved frames order free page_size f room s r =
-    sound_set frames order order free _ page_size f room _ s r.place (room_size frames page_size f room s.sizes r.place)
-    (ordered_unreserved (frames_seen frames) order f r.key s.pages r.holds)
-    (listed_pushed (frames_seen frames) free f (Reserved r.key) s.room r.holds refl)
+pub sound_reserved : (arena : ArenaSeen) (frames : List Frame) (lists : ListsSeen) (free : List ℕ) (resident f : ℕ) (room : Frame) (key : Key)
+    → IsSound arena frames lists (free ++ f ∷ []) resident → IsRoom frames f room → list_any (is_for key) (frames_seen frames) ≡ false
+    → IsSound arena (slice_set frames f (record room { used = in_use.Reserved key })) lists free resident
+sound_reserved arena frames lists free resident f room key s r fresh =
+    sound_set arena frames lists lists _ free resident resident f room _ s r refl s.linked
+    (ordered_reserved (frames_seen frames) (list_at lists 0) f key s.pages (last_held (frames_seen frames) free f s.list) fresh) s.counted
+    (listed_popped (frames_seen frames) free f (Reserved key) s.list refl)
 
-pub sound_filled : (frames : List Frame) (order : List Key) (free : List ℕ) (page_size f : ℕ) (room : Frame) (new : Frame) → IsSound frames order free page_size → (r : IsReservedRoom frames f room)
-    → new.used ≡ in_use.Resident r.key → length new.bytes.items ≡ page_size
-    → IsSound (slice_set frames f new) (order ++ r.key ∷ []) free page_size
-sound_filled frames order free page_size f room new s r used size =
-    let seen : frame_seen new ≡ Resident r.key new.bytes.items = ap (λ (u : Use). seen_as u new.bytes.items) used in
-    sound_set frames order _ free free page_size f room new s r.place size
-    (rw seen (ordered_filled (frames_seen frames) order f r.key new.bytes.items s.pages r.holds))
-    (rw seen (listed_kept (frames_seen frames) free f (Reserved r.key) (Resident r.key new.bytes.items) s.room r.holds refl refl))
+pub sound_unreserved : (arena : ArenaSeen) (frames : List Frame) (lists : ListsSeen) (free : List ℕ) (resident f : ℕ) (room : Frame)
+    → IsSound arena frames lists free resident → IsReservedRoom frames f room
+    → IsSound arena (slice_set frames f (record room { used = in_use.Free })) lists (free ++ f ∷ []) resident
+sound_unreserved arena frames lists free resident f room s r =
+    sound_set arena frames lists lists free _ resident resident f room _ s r.place refl s.linked
+    (ordered_unreserved (frames_seen frames) (list_at lists 0) f r.key s.pages r.holds) s.counted
+    (listed_pushed (frames_seen frames) free f (Reserved r.key) s.list r.holds refl)
 
-pub sound_released : (frames : List Frame) (order : List Key) (free : List ℕ) (page_size f : ℕ) (room : Frame) → IsSound frames order free page_size → (r : IsResidentRoom frames f room)
-    → IsSound (slice_set frames f (record room { used = in_use.Free })) (without r.key order) (free ++ f ∷ []) page_size
-sound_released frames order free page_size f room s r =
-    sound_set frames order _ free _ page_size f room _ s r.place (room_size frames page_size f room s.sizes r.place)
-    (ordered_released (frames_seen frames) order f r.key room.bytes.items s.pages r.holds)
-    (listed_pushed (frames_seen frames) free f (Resident r.key room.bytes.items) s.room r.holds refl)
+pub sound_filled : (arena : ArenaSeen) (frames : List Frame) (lists : ListsSeen) (free : List ℕ) (resident f : ℕ) (room new : Frame)
+    → IsSound arena frames lists free resident → (r : IsReservedRoom frames f room) → new.used ≡ in_use.Resident r.key → new.page.arena ≡ room.page.arena
+    → IsSound arena (slice_set frames f new) (pushed lists 0 f) free (resident + 1)
+sound_filled arena frames lists free resident f room new s r used same =
+    let seen : frame_seen new ≡ Resident r.key new.page.bytes = ap (λ (u : Use). seen_as u new.page.bytes) used in
+    let order = linked_pushed lists (length frames) f s.linked in
+    sound_set arena frames lists (pushed lists 0 f) free free resident (resident + 1) f room new s r.place same order.0
+    (rw (seen, order.1) (ordered_filled (frames_seen frames) (list_at lists 0) f r.key new.page.bytes s.pages r.holds))
+    (rw (order.1, length-append (list_at lists 0) (f ∷ [])) (let was = s.counted in omega arith))
+    (rw seen (listed_kept (frames_seen frames) free f (Reserved r.key) (Resident r.key new.page.bytes) s.list r.holds refl refl))
 
-pub sound_written : (frames : List Frame) (order : List Key) (free : List ℕ) (page_size f : ℕ) (room : Frame) (new : Frame) → IsSound frames order free page_size → (r : IsResidentRoom frames f room)
-    → new.used ≡ in_use.Resident r.key → length new.bytes.items ≡ page_size
-    → IsSound (slice_set frames f new) order free page_size
-sound_written frames order free page_size f room new s r used size =
-    let seen : frame_seen new ≡ Resident r.key new.bytes.items = ap (λ (u : Use). seen_as u new.bytes.items) used in
-    sound_set frames order order free free page_size f room new s r.place size
-    (rw seen (ordered_written (frames_seen frames) order f r.key room.bytes.items new.bytes.items s.pages r.holds))
-    (rw seen (listed_kept (frames_seen frames) free f (Resident r.key room.bytes.items) (Resident r.key new.bytes.items) s.room r.holds refl refl))
+pub sound_written : (arena : ArenaSeen) (frames : List Frame) (lists : ListsSeen) (free : List ℕ) (resident f : ℕ) (room new : Frame)
+    → IsSound arena frames lists free resident → (r : IsResidentRoom frames f room) → new.used ≡ in_use.Resident r.key → new.page.arena ≡ room.page.arena
+    → IsSound arena (slice_set frames f new) lists free resident
+sound_written arena frames lists free resident f room new s r used same =
+    let seen : frame_seen new ≡ Resident r.key new.page.bytes = ap (λ (u : Use). seen_as u new.page.bytes) used in
+    sound_set arena frames lists lists free free resident resident f room new s r.place same s.linked
+    (rw seen (ordered_written (frames_seen frames) (list_at lists 0) f r.key room.page.bytes new.page.bytes s.pages r.holds)) s.counted
+    (rw seen (listed_kept (frames_seen frames) free f (Resident r.key room.page.bytes) (Resident r.key new.page.bytes) s.list r.holds refl refl))
 
-pub sound_reserved : (frames : List Frame) (order : List Key) (free : List ℕ) (page_size f : ℕ) (room : Frame) (key : Key) → IsSound frames order (free ++ f ∷ []) page_size → IsRoom frames f room → list_any (is_for key) (frames_seen frames) ≡ false
-    → IsSound (slice_set frames f (record room { used = in_use.Reserved key })) order free page_size
-sound_reserved frames order free page_size f room key s r fresh =
-    sound_set frames order order _ free page_size f room _ s r (room_size frames page_size f room s.sizes r)
-    (ordered_reserved (frames_seen frames) order f key s.pages (last_held (frames_seen frames) free f s.room) fresh)
-    (listed_popped (frames_seen frames) free f (Reserved key) s.room refl)
+pub sound_released : (arena : ArenaSeen) (frames : List Frame) (lists : ListsSeen) (free : List ℕ) (resident f : ℕ) (room : Frame)
+    → IsSound arena frames lists free resident → IsResidentRoom frames f room
+    → IsSound arena (slice_set frames f (record room { used = in_use.Free })) (removed lists f) (free ++ f ∷ []) (resident - 1)
+sound_released arena frames lists free resident f room s r =
+    let order = linked_removed lists (length frames) f s.linked in
+    let there = placed_once (frames_seen frames) (list_at lists 0) f (Resident r.key room.page.bytes) s.pages r.holds refl in
+    let fewer = length-without (λ other. other == f) (list_at lists 0) in
+    sound_set arena frames lists (removed lists f) free _ resident (resident - 1) f room _ s r.place refl order.0
+    (rw order.1 (ordered_released (frames_seen frames) (list_at lists 0) f r.key room.page.bytes s.pages r.holds))
+    (rw order.1 (let was = s.counted in omega arith))
+    (listed_pushed (frames_seen frames) free f (Resident r.key room.page.bytes) s.list r.holds refl)
 
 -- free, reserved and resident frames are all frames
 pub frames-together : (frames : List FrameSeen) → count_by is_free frames + count_by is_reserved frames + count_by is_resident frames ≡ length frames
@@ -162,10 +201,8 @@ frames-together (x ∷ xs) =
 
 -- what is seen where the bytes of a resident page are written over
 pub frames_seen-written : (frames : List Frame) (f : ℕ) (room : Frame) (w : List ℕ) → IsResidentRoom frames f room
-    → frames_seen (slice_set frames f (record room { bytes = with_items room.bytes w })) ≡ slice_set (frames_seen frames) f (with_bytes (slice_index_or (frames_seen frames) f Free) w)
+    → frames_seen (slice_set frames f (record room { page = arena_frame.with_bytes room.page w })) ≡ slice_set (frames_seen frames) f (with_bytes (slice_index_or (frames_seen frames) f Free) w)
 frames_seen-written frames f room w r =
-    let new : List ℕ = w ++ drop (length w) room.bytes.items in
-    let resident : seen_as room.used (take room.bytes.len new) ≡ Resident r.key (take room.bytes.len new) = ap (λ (u : Use). seen_as u (take room.bytes.len new)) r.used in
-    let whole : Resident r.key (take room.bytes.len new) ≡ Resident r.key (take (length room.bytes.items) new) = ap (λ (n : ℕ). Resident r.key (take n new)) room.bytes.ok.0 in
-    let before : with_bytes (Resident r.key room.bytes.items) w ≡ with_bytes (slice_index_or (frames_seen frames) f Free) w = ap (λ (x : FrameSeen). with_bytes x w) (sym r.holds.is) in
-    map-set frame_seen frames f _ ∙ ap (λ (x : FrameSeen). slice_set (frames_seen frames) f x) (resident ∙ whole ∙ before)
+    let resident : seen_as room.used (refilled room.page.bytes w) ≡ Resident r.key (refilled room.page.bytes w) = ap (λ (u : Use). seen_as u (refilled room.page.bytes w)) r.used in
+    let before : with_bytes (Resident r.key room.page.bytes) w ≡ with_bytes (slice_index_or (frames_seen frames) f Free) w = ap (λ (x : FrameSeen). with_bytes x w) (sym r.holds.is) in
+    map-set frame_seen frames f _ ∙ ap (λ (x : FrameSeen). slice_set (frames_seen frames) f x) (resident ∙ before)

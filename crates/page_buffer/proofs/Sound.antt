@@ -1,5 +1,5 @@
 -- A buffer stays sound through each change of one frame.
-use Rattle.std.proofs.Common.{◌≡◌, ◌≢◌, ℕ, ◌+◌, ◌<◌, ◌≤◌, Bool, true, false, List, [], ◌∷◌, ◌++◌, length, refl, sym, ap, subst, below_more, ◌∙◌, arith, length-append, length-set, get_or-set_same, get_or-set_other}
+use Rattle.std.proofs.Common.{◌≡◌, ◌≢◌, ◌⊎◌, inl, inr, ◌==◌, ℕ, ◌+◌, ◌<◌, ◌≤◌, Bool, true, false, List, [], ◌∷◌, ◌++◌, length, refl, sym, ap, subst, below_more, ◌∙◌, arith, length-append, length-set, get_or-set_same, get_or-set_other}
 use Rattle.std.specs.Prelude.{count_by, slice_index_or, slice_set}
 use Rattle.std.specs.List.{list_any}
 use Rattle.std.proofs.lemmas.List.{get_or_append_left}
@@ -7,12 +7,12 @@ use Rattle.std.proofs.Math.Seq.{get_or-append_seam}
 use Rattle.std.proofs.lemmas.List.Quantifiers.{all_pairs_push}
 use Rattle.page_base.specs.declared.keys.Key.{Key}
 use Rattle.page_base.specs.Pages.{same}
+use Rattle.std.proofs.lemmas.Bool.{cases_eq, eqb-true, eq-eqb}
 use Rattle.page_buffer.specs.Frames.{FrameSeen, Free, Reserved, Resident, is_free, is_resident, is_for}
-use Rattle.page_buffer.specs.InsideFrames.{is_page}
-use Rattle.page_buffer.specs.Buffers.{without}
+use Rattle.index_lists.specs.Lists.{without}
 use Rattle.page_buffer.specs.Insides.{IsOrdered, IsListed}
-use Rattle.page_buffer.proofs.Keys.{same-true, same_self}
-use Rattle.page_buffer.proofs.Counts.{one, count_by-set, count_by-push, count_by-has, count_by-mono, count_by-none, count_by-without, count_by-keeps, length-without}
+use Rattle.page_buffer.proofs.Keys.{same-true}
+use Rattle.page_buffer.proofs.Counts.{one, count_by-set, count_by-push, count_by-none, count_by-without, count_by-keeps, length-without}
 
 -- what frame f holds
 pub record Holds (frames : List FrameSeen) (f : ℕ) (x : FrameSeen) : Type 0 where
@@ -105,13 +105,36 @@ listed_kept frames free f x y s at other still = record {
 
 -- ---- the order
 
--- a free frame is reserved for a page that has none
-pub ordered_reserved : (frames : List FrameSeen) (order : List Key) (f : ℕ) (key : Key) → IsOrdered frames order → Holds frames f Free → list_any (is_for key) frames ≡ false → IsOrdered (slice_set frames f (Reserved key)) order
-ordered_reserved frames order f key s at fresh = record {
-  once = λ k. once k (same key k) refl;
-  ordered = λ k. s.ordered k ∙ (let n = count-holds (is_page k) frames f Free (Reserved key) at in omega arith);
-  residents = let n = count-holds is_resident frames f Free (Reserved key) at in let old = s.residents in omega arith;
+-- how often a frame is in the order
+abbrev pub placed_in : ℕ → List ℕ → ℕ
+placed_in f = count_by (λ other. other == f)
+
+-- where one frame changes, the others are as they were
+resident_other : (frames : List FrameSeen) (f g : ℕ) (y : FrameSeen) → g ≢ f → one (is_resident (slice_index_or (slice_set frames f y) g Free)) ≡ one (is_resident (slice_index_or frames g Free))
+resident_other frames f g y differs = ap (λ (x : FrameSeen). one (is_resident x)) (get_or-set_other frames f g y Free differs)
+
+resident_here : (frames : List FrameSeen) (f : ℕ) (x y : FrameSeen) → Holds frames f x → one (is_resident (slice_index_or (slice_set frames f y) f Free)) ≡ one (is_resident y)
+resident_here frames f x y at = ap (λ (z : FrameSeen). one (is_resident z)) (get_or-set_same frames f y Free at.within)
+
+resident_was : (frames : List FrameSeen) (f : ℕ) (x : FrameSeen) → Holds frames f x → one (is_resident (slice_index_or frames f Free)) ≡ one (is_resident x)
+resident_was frames f x at = ap (λ (z : FrameSeen). one (is_resident z)) at.is
+
+-- a frame changes that is resident before and after, or neither
+pub ordered_kept : (frames : List FrameSeen) (order : List ℕ) (f : ℕ) (x y : FrameSeen) → IsOrdered frames order → Holds frames f x → is_resident x ≡ is_resident y
+    → ((key : Key) → count_by (is_for key) (slice_set frames f y) ≤ 1) → IsOrdered (slice_set frames f y) order
+ordered_kept frames order f x y s at same once = record {
+  once = once;
+  placed = λ g. placed g (cases_eq g f);
+  residents = let n = count-holds is_resident frames f x y at in let old = s.residents in let e : one (is_resident x) ≡ one (is_resident y) = ap one same in omega arith;
 }
+  where
+    placed : (g : ℕ) → (g ≡ f) ⊎ (g ≢ f) → placed_in g order ≡ one (is_resident (slice_index_or (slice_set frames f y) g Free))
+    placed g (inl e) = subst (λ (h : ℕ). placed_in h order ≡ one (is_resident (slice_index_or (slice_set frames f y) h Free))) (sym e) (s.placed f ∙ (resident_was frames f x at ∙ (ap one same ∙ sym (resident_here frames f x y at))))
+    placed g (inr differs) = s.placed g ∙ sym (resident_other frames f g y differs)
+
+-- a free frame is reserved for a page that has none
+pub ordered_reserved : (frames : List FrameSeen) (order : List ℕ) (f : ℕ) (key : Key) → IsOrdered frames order → Holds frames f Free → list_any (is_for key) frames ≡ false → IsOrdered (slice_set frames f (Reserved key)) order
+ordered_reserved frames order f key s at fresh = ordered_kept frames order f Free (Reserved key) s at refl (λ k. once k (same key k) refl)
   where
     once : (k : Key) (b : Bool) → same key k ≡ b → count_by (is_for k) (slice_set frames f (Reserved key)) ≤ 1
     once k true e =
@@ -126,79 +149,65 @@ ordered_reserved frames order f key s at fresh = record {
         omega arith
 
 -- a reserved frame is given back
-pub ordered_unreserved : (frames : List FrameSeen) (order : List Key) (f : ℕ) (key : Key) → IsOrdered frames order → Holds frames f (Reserved key) → IsOrdered (slice_set frames f Free) order
-ordered_unreserved frames order f key s at = record {
-  once = λ k. let n = count-holds (is_for k) frames f (Reserved key) Free at in let old = s.once k in omega arith;
-  ordered = λ k. s.ordered k ∙ (let n = count-holds (is_page k) frames f (Reserved key) Free at in omega arith);
-  residents = let n = count-holds is_resident frames f (Reserved key) Free at in let old = s.residents in omega arith;
-}
-
--- a reserved frame is filled
-pub ordered_filled : (frames : List FrameSeen) (order : List Key) (f : ℕ) (key : Key) (bytes : List ℕ) → IsOrdered frames order → Holds frames f (Reserved key) → IsOrdered (slice_set frames f (Resident key bytes)) (order ++ key ∷ [])
-ordered_filled frames order f key bytes s at = record {
-  once = λ k. let n = count-holds (is_for k) frames f (Reserved key) (Resident key bytes) at in let old = s.once k in omega arith;
-  ordered = λ k.
-      let n = count-holds (is_page k) frames f (Reserved key) (Resident key bytes) at in
-      let m = count_by-push (λ (other : Key). same other k) order key in
-      let old = s.ordered k in
-      omega arith;
-  residents =
-      let n = count-holds is_resident frames f (Reserved key) (Resident key bytes) at in
-      let m = length-append order (key ∷ []) in
-      let old = s.residents in
-      omega arith;
-}
+pub ordered_unreserved : (frames : List FrameSeen) (order : List ℕ) (f : ℕ) (key : Key) → IsOrdered frames order → Holds frames f (Reserved key) → IsOrdered (slice_set frames f Free) order
+ordered_unreserved frames order f key s at = ordered_kept frames order f (Reserved key) Free s at refl (λ k. (let n = count-holds (is_for k) frames f (Reserved key) Free at in let old = s.once k in omega arith))
 
 -- the bytes of a resident page change
-pub ordered_written : (frames : List FrameSeen) (order : List Key) (f : ℕ) (key : Key) (old new : List ℕ) → IsOrdered frames order → Holds frames f (Resident key old) → IsOrdered (slice_set frames f (Resident key new)) order
-ordered_written frames order f key old new s at = record {
-  once = λ k. let n = count-holds (is_for k) frames f (Resident key old) (Resident key new) at in let was = s.once k in omega arith;
-  ordered = λ k. s.ordered k ∙ (let n = count-holds (is_page k) frames f (Resident key old) (Resident key new) at in omega arith);
-  residents = let n = count-holds is_resident frames f (Resident key old) (Resident key new) at in let was = s.residents in omega arith;
-}
+pub ordered_written : (frames : List FrameSeen) (order : List ℕ) (f : ℕ) (key : Key) (old new : List ℕ) → IsOrdered frames order → Holds frames f (Resident key old) → IsOrdered (slice_set frames f (Resident key new)) order
+ordered_written frames order f key old new s at = ordered_kept frames order f (Resident key old) (Resident key new) s at refl (λ k. (let n = count-holds (is_for k) frames f (Resident key old) (Resident key new) at in let was = s.once k in omega arith))
 
--- a resident page is in the order once
-pub in_order_once : (frames : List FrameSeen) (order : List Key) (f : ℕ) (key : Key) (bytes : List ℕ) → IsOrdered frames order → Holds frames f (Resident key bytes) → count_by (λ (other : Key). same other key) order ≡ 1
-in_order_once frames order f key bytes s at =
-    let is_there : is_page key (slice_index_or frames f Free) ≡ true = rw at.is (same_self key) in
-    let least = count_by-has (is_page key) frames f Free at.within is_there in
-    let most = count_by-mono (is_page key) (is_for key) frames page_is_for in
-    let once = s.once key in
-    let ordered = s.ordered key in
-    omega arith
-  where
-    page_is_for : (x : FrameSeen) → one (is_page key x) ≤ one (is_for key x)
-    page_is_for Free = omega arith
-    page_is_for (Reserved other) = omega arith
-    page_is_for (Resident other bytes) = omega arith
+-- a reserved frame isn't in the order, and one with a resident page is there once
+pub not_placed : (frames : List FrameSeen) (order : List ℕ) (f : ℕ) (x : FrameSeen) → IsOrdered frames order → Holds frames f x → is_resident x ≡ false → placed_in f order ≡ 0
+not_placed frames order f x s at other = s.placed f ∙ (resident_was frames f x at ∙ ap one other)
 
--- a resident page leaves
-pub ordered_released : (frames : List FrameSeen) (order : List Key) (f : ℕ) (key : Key) (bytes : List ℕ) → IsOrdered frames order → Holds frames f (Resident key bytes) → IsOrdered (slice_set frames f Free) (without key order)
-ordered_released frames order f key bytes s at = record {
-  once = λ k. let n = count-holds (is_for k) frames f (Resident key bytes) Free at in let old = s.once k in omega arith;
-  ordered = λ k. ordered k (same key k) refl;
+pub placed_once : (frames : List FrameSeen) (order : List ℕ) (f : ℕ) (x : FrameSeen) → IsOrdered frames order → Holds frames f x → is_resident x ≡ true → placed_in f order ≡ 1
+placed_once frames order f x s at resident = s.placed f ∙ (resident_was frames f x at ∙ ap one resident)
+
+-- a reserved frame is filled
+pub ordered_filled : (frames : List FrameSeen) (order : List ℕ) (f : ℕ) (key : Key) (bytes : List ℕ) → IsOrdered frames order → Holds frames f (Reserved key) → IsOrdered (slice_set frames f (Resident key bytes)) (order ++ f ∷ [])
+ordered_filled frames order f key bytes s at = record {
+  once = λ k. (let n = count-holds (is_for k) frames f (Reserved key) (Resident key bytes) at in let old = s.once k in omega arith);
+  placed = λ g. placed g (f == g) refl;
   residents =
-      let n = count-holds is_resident frames f (Resident key bytes) Free at in
-      let m = length-without (λ (other : Key). same other key) order in
-      let one_there = in_order_once frames order f key bytes s at in
+      let n = count-holds is_resident frames f (Reserved key) (Resident key bytes) at in
+      let m = length-append order (f ∷ []) in
       let old = s.residents in
       omega arith;
 }
   where
-    ordered : (k : Key) (b : Bool) → same key k ≡ b → count_by (λ (other : Key). same other k) (without key order) ≡ count_by (is_page k) (slice_set frames f Free)
-    ordered k true e = subst (λ j. count_by (λ (other : Key). same other j) (without key order) ≡ count_by (is_page j) (slice_set frames f Free)) (same-true key k e) here
-      where
-        here : count_by (λ (other : Key). same other key) (without key order) ≡ count_by (is_page key) (slice_set frames f Free)
-        here =
-            let n = count-holds (is_page key) frames f (Resident key bytes) Free at in
-            let counts : one (same key key) ≡ 1 = ap one (same_self key) in
-            let one_there = in_order_once frames order f key bytes s at in
-            let none = count_by-without (λ (other : Key). same other key) order in
-            let old = s.ordered key in
-            omega arith
-    ordered k false e =
-        let n = count-holds (is_page k) frames f (Resident key bytes) Free at in
-        let counts : one (same key k) ≡ 0 = ap one e in
-        let kept = count_by-keeps (λ (other : Key). same other key) (λ (other : Key). same other k) order (λ other is. subst (λ (j : Key). same j k ≡ false) (sym (same-true other key is)) e) in
-        let old = s.ordered k in
+    placed : (g : ℕ) (b : Bool) → (f == g) ≡ b → placed_in g (order ++ f ∷ []) ≡ one (is_resident (slice_index_or (slice_set frames f (Resident key bytes)) g Free))
+    placed g true e =
+        subst (λ (h : ℕ). placed_in h (order ++ f ∷ []) ≡ one (is_resident (slice_index_or (slice_set frames f (Resident key bytes)) h Free))) (eqb-true f g e)
+        (let push = count_by-push (λ other. other == f) order f in
+        let none = not_placed frames order f (Reserved key) s at refl in
+        let counts : one (f == f) ≡ 1 = ap one (eq-eqb f f refl) in
+        let here = resident_here frames f (Reserved key) (Resident key bytes) at in
+        omega arith)
+    placed g false e =
+        let push = count_by-push (λ other. other == g) order f in
+        let counts : one (f == g) ≡ 0 = ap one e in
+        let old = s.placed g in
+        let other = resident_other frames f g (Resident key bytes) (λ is. (let yes = eq-eqb f g (sym is) in cc (yes, e))) in
         omega arith
+
+-- a resident page leaves
+pub ordered_released : (frames : List FrameSeen) (order : List ℕ) (f : ℕ) (key : Key) (bytes : List ℕ) → IsOrdered frames order → Holds frames f (Resident key bytes) → IsOrdered (slice_set frames f Free) (without f order)
+ordered_released frames order f key bytes s at = record {
+  once = λ k. (let n = count-holds (is_for k) frames f (Resident key bytes) Free at in let old = s.once k in omega arith);
+  placed = λ g. placed g (f == g) refl;
+  residents =
+      let n = count-holds is_resident frames f (Resident key bytes) Free at in
+      let m = length-without (λ other. other == f) order in
+      let there = placed_once frames order f (Resident key bytes) s at refl in
+      let old = s.residents in
+      omega arith;
+}
+  where
+    placed : (g : ℕ) (b : Bool) → (f == g) ≡ b → placed_in g (without f order) ≡ one (is_resident (slice_index_or (slice_set frames f Free) g Free))
+    placed g true e =
+        subst (λ (h : ℕ). placed_in h (without f order) ≡ one (is_resident (slice_index_or (slice_set frames f Free) h Free))) (eqb-true f g e)
+        (count_by-without (λ other. other == f) order ∙ sym (resident_here frames f (Resident key bytes) Free at))
+    placed g false e =
+        let differs : g ≢ f = λ is. (let yes = eq-eqb f g (sym is) in cc (yes, e)) in
+        let kept = count_by-keeps (λ other. other == f) (λ other. other == g) order (λ other is. subst (λ (h : ℕ). (h == g) ≡ false) (sym (eqb-true other f is)) e) in
+        kept ∙ (s.placed g ∙ sym (resident_other frames f g Free differs))

@@ -1,13 +1,13 @@
 -- How the fields of a buffer are seen, and what holds of them between calls. No contract cites this.
-use Rattle.std.specs.Prelude.{ℕ, ◌≡◌, ◌≢◌, ◌<◌, ◌≤◌, List, length, map, count_by, slice_index_or}
+use Rattle.std.specs.Prelude.{ℕ, ◌≡◌, ◌≢◌, ◌==◌, ◌<◌, ◌≤◌, cond, List, [], ◌∷◌, length, map, count_by, slice_index_or, All}
 use Rattle.std.specs.List.{AllPairs}
 use Rattle.page_base.specs.declared.keys.Key.{Key}
-use Rattle.page_base.specs.Pages.{same}
+use Rattle.frame_arena.specs.Frames.{ArenaSeen, home}
+use Rattle.index_lists.specs.Lists.{ListsSeen, list_at}
 use Rattle.page_buffer.specs.declared.frame.Use.{Use}
 use Rattle.page_buffer.specs.declared.frame.Use.TheVariants as in_use
 use Rattle.page_buffer.specs.declared.frame.Frame.{Frame}
-use Rattle.page_buffer.specs.Frames.{FrameSeen, Free, Reserved, Resident, is_free, is_resident, is_for}
-use Rattle.page_buffer.specs.InsideFrames.{is_page}
+use Rattle.page_buffer.specs.Frames.{FrameSeen, Free, Reserved, Resident, page_of, is_free, is_resident, is_for}
 
 abbrev pub seen_as : Use → List ℕ → FrameSeen
 seen_as in_use.Free bytes = Free
@@ -15,20 +15,35 @@ seen_as (in_use.Reserved key) bytes = Reserved key
 seen_as (in_use.Resident key) bytes = Resident key bytes
 
 abbrev pub frame_seen : Frame → FrameSeen
-frame_seen f = seen_as f.used f.bytes.items
+frame_seen f = seen_as f.used f.page.bytes
 
 abbrev pub frames_seen : List Frame → List FrameSeen
 frames_seen frames = map frame_seen frames
 
--- the room of each frame is one page
-abbrev pub IsSized : List Frame → ℕ → Type 0
-IsSized frames page_size = (i : ℕ) (d : Frame) → i < length frames → length (slice_index_or frames i d).bytes.items ≡ page_size
+-- the page that a frame is for, by its number
+abbrev pub page_in : List FrameSeen → ℕ → Key
+page_in frames frame = page_of (slice_index_or frames frame Free)
 
--- a page has one frame at the most, and the order has each resident page once
-pub record IsOrdered (frames : List FrameSeen) (order : List Key) : Type 0 where
+-- the order is kept by the numbers of the frames
+abbrev pub residents_seen : List FrameSeen → List ℕ → List Key
+residents_seen frames order = map (page_in frames) order
+
+-- all frames of the arena are out, and here
+pub record HasAll (arena : ArenaSeen) (frames : List Frame) : Type 0 where
+  pub out : home arena ≡ 0
+  pub many : length frames ≡ arena.frames
+  pub mine : All (λ (f : Frame). f.page.arena ≡ arena.arena) frames
+
+-- a page has one frame at the most, and the order has each frame with a resident page once, and no other
+pub record IsOrdered (frames : List FrameSeen) (order : List ℕ) : Type 0 where
   pub once : (key : Key) → count_by (is_for key) frames ≤ 1
-  pub ordered : (key : Key) → count_by (λ (other : Key). same other key) order ≡ count_by (is_page key) frames
+  pub placed : (frame : ℕ) → count_by (λ other. other == frame) order ≡ cond (is_resident (slice_index_or frames frame Free)) 1 0
   pub residents : length order ≡ count_by is_resident frames
+
+-- the order is the one list over the numbers of the frames
+pub record IsLinked (lists : ListsSeen) (frames : ℕ) : Type 0 where
+  pub numbers : lists.numbers ≡ frames
+  pub one : lists.lists ≡ list_at lists 0 ∷ []
 
 -- the free list has each free frame once
 pub record IsListed (frames : List FrameSeen) (free : List ℕ) : Type 0 where
@@ -37,8 +52,10 @@ pub record IsListed (frames : List FrameSeen) (free : List ℕ) : Type 0 where
   pub are_free : (i d : ℕ) → i < length free → slice_index_or frames (slice_index_or free i d) Free ≡ Free
   pub apart : AllPairs (λ (f g : ℕ). f ≢ g) free
 
-pub record IsSound (frames : List Frame) (order : List Key) (free : List ℕ) (page_size : ℕ) : Type 0 where
+pub record IsSound (arena : ArenaSeen) (frames : List Frame) (lists : ListsSeen) (free : List ℕ) (resident : ℕ) : Type 0 where
   pub few : length frames < 4294967296
-  pub sizes : IsSized frames page_size
-  pub pages : IsOrdered (frames_seen frames) order
-  pub room : IsListed (frames_seen frames) free
+  pub rooms : HasAll arena frames
+  pub linked : IsLinked lists (length frames)
+  pub pages : IsOrdered (frames_seen frames) (list_at lists 0)
+  pub counted : resident ≡ length (list_at lists 0)
+  pub list : IsListed (frames_seen frames) free

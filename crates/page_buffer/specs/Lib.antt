@@ -1,4 +1,3 @@
 pub mod Frames
-pub mod InsideFrames
 pub mod Buffers
 pub mod Insides

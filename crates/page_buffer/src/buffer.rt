@@ -1,64 +1,101 @@
 //! The frames of a stripe, the order of its resident pages, and the frames that are free.
 //!
-//! What must stay true when this file is changed: a page has one frame at the most, `order` has each resident page once, and
-//! `free` has each free frame once. The rooms of `order` and `free` are for as many as there are frames, so neither grows.
-ghost use Rattle.std.specs.Prelude.{◌≡◌, ◌<◌, ◌≤◌, ◌+◌, length, count_by, false, IsTrue, IfSome, IfNone, IfOk, All, Contains, slice_get};
+//! What must stay true when this file is changed: all frames of the arena are here, a page has one frame at the most, `order` has
+//! the number of each frame with a resident page once, `free` that of each free frame, and `resident` says how many pages are in
+//! the order. The room of `free` is for as many as there are frames, so it doesn't grow. No call goes through the order but
+//! `oldest_where`, over the pages that fail its test, and `nth`, over those before its place.
+ghost use Rattle.std.specs.Prelude.{◌≡◌, ◌<◌, ◌≤◌, ◌+◌, ◌*◌, length, count_by, false, IsTrue, IfSome, IfNone, IfOk, All, Contains, slice_get};
 ghost use Rattle.std.specs.Borrow.{Lends, sem, Array, u8 as byte};
 ghost use Rattle.page_base.specs.declared.keys.Key.{Key};
-ghost use Rattle.page_buffer.specs.Frames.{Free, Reserved, is_reserved, is_resident, resident_key, bytes_of};
+ghost use Rattle.page_base.specs.declared.limits.TheConstants.{MOST_BUFFER_BYTES};
+ghost use Rattle.page_buffer.specs.Frames.{Free, Reserved, is_reserved, is_resident, resident_key, page_of, bytes_of};
 ghost use Rattle.page_buffer.specs.Buffers.{all_free, frame_of, has_frame_for, free_frames, reserved_frames, with_frame, filled, released, with_page, evicts, IsFirst, FindsComputed};
 ghost use Rattle.page_buffer.specs.contracts.buffer.PageBuffer.{the_row};
 
 use crate::frame::{Frame, Use};
+use frame_arena::FrameArena;
+use index_lists::IndexLists;
 use page_base::{Key, Marks, OutOfMemory};
 use std::alloc::Global;
 use std::marker::Model;
 
-/// As many frames as the quota, and the resident pages in order of filling.
-#[derive(Drop)]
+/// As many frames as the quota, and the resident pages in order of filling. It must be closed.
 pub struct PageBuffer {
+    arena: FrameArena,
     frames: Vec<Frame>,
-    order: Vec<Key>,
+    order: IndexLists,
     free: Vec<u32>,
-    page_size: u32,
+    resident: u32,
 }
 
 impl Model for PageBuffer {
     ghost use Rattle.std.specs.Prelude.{◌≤◌, length, vec_capacity};
+    ghost use Rattle.index_lists.specs.Lists.{list_at};
     ghost use Rattle.page_buffer.specs.Buffers.{BufferSeen};
-    ghost use Rattle.page_buffer.specs.Insides.{frames_seen, IsSound};
+    ghost use Rattle.page_buffer.specs.Insides.{frames_seen, residents_seen, IsSound};
 
     ghost Value = { BufferSeen };
 
-    ghost view = { λ b. record { page_size = b.page_size; frames = frames_seen b.frames.items; residents = b.order.items } };
+    ghost view = { λ b. record {
+      page_size = b.arena.arena.page_size;
+      frames = frames_seen b.frames.items;
+      residents = residents_seen (frames_seen b.frames.items) (list_at b.order 0);
+    } };
 
-    ghost invariant = { λ b. IsSound b.frames.items b.order.items b.free.items b.page_size × (length b.frames.items ≤ vec_capacity b.order) × (length b.frames.items ≤ vec_capacity b.free) };
+    ghost invariant = { λ b. IsSound b.arena b.frames.items b.order b.free.items b.resident
+        × (length b.frames.items ≤ vec_capacity b.free) };
 }
 
 impl PageBuffer {
-    /// A buffer of free frames. It takes all memory that the buffer ever takes.
+    /// A buffer of free frames. It takes all memory that the buffer ever takes, and keeps none where it is refused.
     pub fn new(alloc: Global, quota: u32, page_size: u32) -> Result<PageBuffer, OutOfMemory>
         requires some { 1 ≤ quota }
+        requires page { 1 ≤ page_size }
+        requires small { quota * page_size ≤ MOST_BUFFER_BYTES }
         ensures free { IfOk result (λ b. b ≡ all_free quota page_size) }
     {
-        let room = quota as usize;
-        let mut frames = Vec::with_capacity(alloc, room).map_err(|_| OutOfMemory)?;
-        let mut free = Vec::with_capacity(alloc, room).map_err(|_| OutOfMemory)?;
-        let order = Vec::with_capacity(alloc, room).map_err(|_| OutOfMemory)?;
+        let mut free = Vec::with_capacity(alloc, quota as usize).map_err(|_| OutOfMemory)?;
+        let order = IndexLists::new(alloc, 1, quota)?;
+        let mut frames = Vec::with_capacity(alloc, quota as usize).map_err(|_| OutOfMemory)?;
+        let mut arena = match FrameArena::new(alloc, quota, page_size) {
+            Ok(arena) => arena,
+            Err(refused) => {
+                frames.destroy_empty();
+                return Err(refused);
+            }
+        };
         for frame in 0..quota {
-            let bytes = vec![in alloc; 0u8; page_size as usize].map_err(|_| OutOfMemory)?;
+            let page = arena.take().unwrap();
             frames.push_reserved(Frame {
                 used: Use::Free,
-                bytes,
+                page,
             });
             free.push_reserved(frame);
         }
         Ok(PageBuffer {
+            arena,
             frames,
             order,
             free,
-            page_size,
+            resident: 0,
         })
+    }
+
+    /// Puts every frame back and frees the block, whatever the frames hold.
+    pub fn close(self) {
+        let PageBuffer {
+            mut arena,
+            mut frames,
+            order: _,
+            free: _,
+            resident: _,
+        } = self;
+        for _ in 0..frames.len() {
+            let Frame { used: _, page } = frames.pop().unwrap();
+            arena.put(page);
+        }
+        frames.destroy_empty();
+        arena.free();
     }
 
     /// Takes a free frame for a page whose read begins.
@@ -86,8 +123,9 @@ impl PageBuffer {
             unreachable!()
         };
         room.used = Use::Resident(key);
-        room.bytes.copy_from_slice(bytes);
-        self.order.push_reserved(key);
+        room.page.bytes_mut().copy_from_slice(bytes);
+        self.order.push_back(0, frame);
+        self.resident += 1;
     }
 
     /// Gives a reserved frame back, after a failed read.
@@ -106,11 +144,9 @@ impl PageBuffer {
         ensures released { self.new ≡ released self.old frame }
     {
         let room = &mut self.frames[frame as usize];
-        let Use::Resident(key) = room.used else {
-            unreachable!()
-        };
         room.used = Use::Free;
-        self.order.retain(|other| *other != key);
+        self.order.remove(frame);
+        self.resident -= 1;
         self.free.push_reserved(frame);
     }
 
@@ -120,7 +156,7 @@ impl PageBuffer {
         ensures bytes { result.now ≡ bytes_of (frame_of self.now frame) }
         ensures size { length result.now ≡ self.now.page_size }
     {
-        &self.frames[frame as usize].bytes
+        self.frames[frame as usize].page.bytes()
     }
 
     /// The bytes of a resident page, to be written over.
@@ -130,8 +166,7 @@ impl PageBuffer {
         ensures bytes { result.now ≡ bytes_of (frame_of self.old frame) }
         ensures size { length result.now ≡ self.old.page_size }
     {
-        let room = &mut self.frames[frame as usize];
-        &mut room.bytes
+        self.frames[frame as usize].page.bytes_mut()
     }
 
     /// The first resident page in order of filling that passes the test.
@@ -141,10 +176,14 @@ impl PageBuffer {
         ensures none { IfNone result (All (λ key. T.post test key false) self.now.residents) }
         ensures computed { FindsComputed (T.post test) self.now.residents result }
     {
-        for key in &self.order {
-            if test(*key) {
-                return Some(*key);
+        let mut at = self.order.first(0);
+        for _ in 0..self.resident {
+            let frame = at.unwrap();
+            let key = self.resident_in(frame);
+            if test(key) {
+                return Some(key);
             }
+            at = self.order.next(frame);
         }
         None
     }
@@ -160,11 +199,26 @@ impl PageBuffer {
         }
     }
 
-    /// The resident page at a place in the order of filling, none past the last.
+    /// The resident page at a place in the order of filling, none past the last. It walks there from the oldest.
     pub fn nth(&self, place: u32) -> Option<Key>
         ensures exact { result ≡ slice_get self.now.residents place }
     {
-        self.order.get(place as usize).copied()
+        let mut at = self.order.first(0);
+        for _ in 0..place {
+            at = self.order.next(at?);
+        }
+        Some(self.resident_in(at?))
+    }
+
+    /// The page of a frame in the order.
+    fn resident_in(&self, frame: u32) -> Key
+        requires resident { IsTrue (is_resident (frame_of self.now frame)) }
+        ensures page { result ≡ page_of (frame_of self.now frame) }
+    {
+        let Use::Resident(key) = self.frames[frame as usize].used else {
+            unreachable!()
+        };
+        key
     }
 
     /// The number of resident pages.
@@ -172,7 +226,7 @@ impl PageBuffer {
         ensures exact { result ≡ length self.now.residents }
         ensures counted { result ≡ count_by is_resident self.now.frames }
     {
-        self.order.len() as u32
+        self.resident
     }
 
     /// The number of free frames.
@@ -208,6 +262,7 @@ mod tests {
         assert_eq!(rt; buffer.free(), 1);
         buffer.unreserve(frame);
         assert_eq!(rt; buffer.free(), 2);
+        buffer.close();
         Ok(())
     }
 
@@ -223,6 +278,7 @@ mod tests {
         assert_eq!(rt; buffer.bytes(frame), [7, 8].as_slice());
         buffer.release(frame);
         assert_eq!(rt; buffer.resident(), 0);
+        buffer.close();
         Ok(())
     }
 
@@ -241,6 +297,7 @@ mod tests {
         assert_eq!(rt; buffer.oldest_where(|key| key.region == 0), Some(PAGE));
         assert_eq!(rt; buffer.nth(1), Some(PAGE));
         assert_eq!(rt; buffer.nth(2), None);
+        buffer.close();
         Ok(())
     }
 
@@ -251,6 +308,7 @@ mod tests {
         assert_eq!(rt; buffer.evicting(false, Marks { on: 1, off: 0 }), false);
         assert_eq!(rt; buffer.evicting(true, Marks { on: 1, off: 0 }), false);
         assert_eq!(rt; buffer.evicting(false, Marks { on: 0, off: 0 }), true);
+        buffer.close();
         Ok(())
     }
 }

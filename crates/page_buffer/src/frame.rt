@@ -9,9 +9,8 @@ pub(crate) enum Use {
     Resident(Key),
 }
 
-/// Room for one page. Its bytes mean something while a page is resident in it.
-#[derive(Drop)]
+/// Room for one page, which is a frame of the arena. Its bytes mean something while a page is resident in it.
 pub(crate) struct Frame {
     pub(crate) used: Use,
-    pub(crate) bytes: Vec<u8>,
+    pub(crate) page: frame_arena::Frame,
 }
