@@ -1,8 +1,10 @@
 -- The first item that a test passes is the one that `find` gives, where the test computes.
-use Rattle.std.proofs.Common.{◌≡◌, ◌∙◌, ℕ, ◌<◌, Bool, true, false, List, [], ◌∷◌, length, take, find, Some, None, All, refl, sym, ap, arith}
-use Rattle.std.specs.Prelude.{slice_index_or}
-use Rattle.std.specs.List.{position_or_len, slice_get}
-use Rattle.std.proofs.lemmas.List.{get_or-take, get_or_default, length-take-le}
+use Rattle.std.proofs.Common.{◌≡◌, ◌∙◌, ℕ, ◌+◌, ◌<◌, Bool, true, false, List, [], ◌∷◌, ◌++◌, length, take, find, Some, None, All, refl, sym, ap, arith}
+use Rattle.std.specs.Prelude.{slice_index_or, slice_get}
+use Rattle.fault_queue.specs.InsideQueues.{blank, raise_in, raises_in}
+use Rattle.std.specs.List.{position_or_len}
+use Rattle.std.proofs.lemmas.List.{get_or-take, get_or_default, get_or-map, length-map, length-take-le, take_more}
+use Rattle.std.proofs.lemmas.List.Elements.{All-push}
 use Rattle.std.proofs.lemmas.List.Sums.{position_or_len_is}
 use Rattle.std.proofs.lemmas.List.Folds.{find_at}
 use Rattle.std.proofs.lemmas.Option.{slice_get-get_or, slice_get_within, slice_get_past, get_or_from_slice_get}
@@ -28,5 +30,19 @@ find-nothing answers passes (x ∷ xs) computes none =
     find_at passes (x ∷ xs) ∙ slice_get_past (x ∷ xs) _ (omega (arith, place))
 
 -- where the items before a place fail and the one there passes, it is the first
-pub first_at : (answers : Raise → Bool → Type 0) (xs : List Raise) (i : ℕ) (d : Raise) → All (λ (x : Raise). answers x false) (take i xs) → i < length xs → answers (slice_index_or xs i d) true → IsFirst answers xs (slice_index_or xs i d)
-first_at answers xs i d before within passes = record { place = i; is = slice_get-get_or xs i d within; passes = passes; before = before }
+pub first_at : (answers : Raise → Bool → Type 0) (xs : List Raise) (i : ℕ) (d r : Raise) → All (λ (x : Raise). answers x false) (take i xs) → i < length xs
+    → slice_index_or xs i d ≡ r → answers r true → IsFirst answers xs r
+first_at answers xs i d r before within is passes = record { place = i; is = slice_get-get_or xs i d within ∙ ap Some is; passes = passes; before = before }
+
+-- one item more fails
+pub all_more : (P : Raise → Type 0) (xs : List Raise) (i : ℕ) (d r : Raise) → i < length xs → slice_index_or xs i d ≡ r → All P (take i xs) → P r → All P (take (i + 1) xs)
+all_more P xs i d r within is before here =
+    let more : take (i + 1) xs ≡ take i xs ++ r ∷ [] = take_more xs i d within ∙ ap (λ x. take i xs ++ x ∷ []) is in
+    rw more (All-push P (take i xs) r before here)
+
+-- the raise at a place of the order is that of the slot there
+pub raise_at : (slots : List Raise) (order : List ℕ) (place slot : ℕ) → slice_get order place ≡ Some slot → (place < length (raises_in slots order)) × (slice_index_or (raises_in slots order) place blank ≡ raise_in slots slot)
+raise_at slots order place slot is =
+    let within : place < length order = slice_get_within order place slot is in
+    let here : slice_index_or order place 0 ≡ slot = get_or_from_slice_get order place slot 0 is in
+    (omega (arith, within, length-map order (raise_in slots)), get_or-map (raise_in slots) order place 0 blank within ∙ ap (raise_in slots) here)

@@ -1,3 +1,7 @@
-pub mod Once
-pub mod Keys
-pub mod First
+mod Chains
+mod Counts
+mod First
+mod Keys
+mod Moves
+mod Once
+mod Walks

@@ -1,10 +1,50 @@
--- What ties the fields of a queue.
-use Rattle.std.specs.Prelude.{ℕ, ◌≤◌, List, length, count_by}
+-- How the raises lie in slots, and what ties the fields of a queue.
+use Rattle.std.specs.Prelude.{ℕ, ◌≡◌, ◌+◌, ◌*◌, ◌%◌, ◌<◌, ◌≤◌, ◌==◌, Bool, List, [], ◌∷◌, length, map, filter, count_by, slice_index_or}
+use Rattle.std.specs.List.{range_with_len}
+use Rattle.index_lists.specs.Lists.{ListsSeen, list_at}
 use Rattle.page_base.specs.declared.keys.Key.{Key}
 use Rattle.page_base.specs.declared.keys.Raise.{Raise}
+use Rattle.page_base.specs.declared.keys.Why.TheVariants.{Read}
 use Rattle.fault_queue.specs.Queues.{is_of}
 
--- a page is raised at most once, and the raises are within the capacity
-pub record IsSound (raises : List Raise) (capacity : ℕ) : Type 0 where
-  pub once : (key : Key) → count_by (is_of key) raises ≤ 1
-  pub within : length raises ≤ capacity
+-- what a slot has that was never used
+abbrev pub blank : Raise
+blank = record { key = record { region = 0; page = 0 }; why = Read }
+
+abbrev pub raise_in : List Raise → ℕ → Raise
+raise_in slots slot = slice_index_or slots slot blank
+
+-- the raises of some slots, in their order
+abbrev pub raises_in : List Raise → List ℕ → List Raise
+raises_in slots order = map (raise_in slots) order
+
+-- the slot has a raise of this page
+abbrev pub holds : List Raise → Key → ℕ → Bool
+holds slots key slot = is_of key (raise_in slots slot)
+
+abbrev pub bucket_of : (buckets : ℕ) → Key → ℕ
+bucket_of buckets key = (key.region * 65537 + key.page) % buckets
+
+abbrev pub is_in_bucket : List Raise → (bucket slot : ℕ) → Bool
+is_in_bucket slots bucket slot = bucket_of (length slots) (raise_in slots slot).key == bucket
+
+-- for each bucket the slots of its raises, in their order
+abbrev pub chains_of : List Raise → List ℕ → List (List ℕ)
+chains_of slots order = map (λ bucket. filter (is_in_bucket slots bucket) order) (range_with_len 0 (length slots))
+
+-- a page is raised at most once
+abbrev pub AreOnce : List Raise → Type 0
+AreOnce raises = (key : Key) → count_by (is_of key) raises ≤ 1
+
+-- each slot is either in the order or free
+pub record IsDealt (lists : ListsSeen) (slots : ℕ) : Type 0 where
+  pub two : lists ≡ record { numbers = slots; lists = list_at lists 0 ∷ list_at lists 1 ∷ [] }
+  pub all : length (list_at lists 0) + length (list_at lists 1) ≡ slots
+
+pub record IsSound (slots : List Raise) (order chains : ListsSeen) (count : ℕ) : Type 0 where
+  pub some : 1 ≤ length slots
+  pub few : length slots < 2147483648
+  pub dealt : IsDealt order (length slots)
+  pub counted : count ≡ length (list_at order 0)
+  pub once : AreOnce (raises_in slots (list_at order 0))
+  pub chained : chains ≡ record { numbers = length slots; lists = chains_of slots (list_at order 0) }

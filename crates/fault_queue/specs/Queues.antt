@@ -30,6 +30,10 @@ raise_of r = record { key = r.0; why = r.1 }
 abbrev pub with_raise : QueueSeen → Key → Why → QueueSeen
 with_raise q key why = record q { raises = q.raises ++ record { key = key; why = why } ∷ [] }
 
+-- what a test of a key and a why answers of a raise
+abbrev pub of_raise : (Key → Why → Bool → Type 0) → Raise → Bool → Type 0
+of_raise answers raise answer = answers raise.key raise.why answer
+
 -- the raise is the first that a test passes, by what the test answers: true for it, and false for each before it
 pub record IsFirst (answers : Raise → Bool → Type 0) (raises : List Raise) (raise : Raise) : Type 0 where
   pub place : ℕ

@@ -1,10 +1,15 @@
-//! The fault queue: one vector of raises, the oldest first, with room for as many as the capacity.
+//! The fault queue: slots for as many raises as the capacity, the order in which they were raised, and chains by page.
 //!
-//! Each change has to keep one raise a page at the most, since `withdraw` takes the first that it finds.
-ghost use Rattle.std.specs.Prelude.{◌≡◌, ◌<◌, ◌≤◌, ◌↔◌, [], length, false, Some, None, IsSome, IfSome, IfNone, IsErr, OnOk, OnErr, IfOk, All, Contains, position, option_map};
+//! The order is a list over the numbers of the slots, and the free slots are another. A page's raise is found in the chain of
+//! its bucket, which has the slots of that bucket in the order of the queue. Each change has to keep one raise a page at the
+//! most, since a chain is walked to the first that it has of a page.
+ghost use Rattle.std.specs.Prelude.{◌≡◌, ◌<◌, ◌≤◌, ◌↔◌, [], length, false, Some, None, IsSome, IfSome, IfNone, IsErr, OnOk, OnErr, IfOk, All, Contains, find, option_map};
 ghost use Rattle.page_base.specs.declared.keys.Raise.{Raise};
-ghost use Rattle.fault_queue.specs.Queues.{pending_why, without, is_of, raise_of, with_raise, IsFirst, FindsComputed};
+ghost use Rattle.index_lists.specs.Lists.{list_at};
+ghost use Rattle.fault_queue.specs.InsideQueues.{bucket_of, holds};
+ghost use Rattle.fault_queue.specs.Queues.{pending_why, without, raise_of, of_raise, with_raise, IsFirst, FindsComputed};
 
+use index_lists::IndexLists;
 use page_base::{Key, OutOfMemory, Raise, Why};
 use std::alloc::Global;
 use std::marker::Model;
@@ -15,23 +20,34 @@ use thiserror::Error;
 #[error("the fault queue is full")]
 pub struct QueueFull;
 
+// The two lists over the slots.
+const QUEUED: u32 = 0;
+
+const FREE: u32 = 1;
+
+// More slots and chains can't be numbered.
+const MOST_SLOTS: u32 = 2_147_483_647;
+
 /// The raises that wait, in order.
 #[derive(Drop)]
 pub struct FaultQueue {
-    raises: Vec<Raise>,
-    capacity: u32,
+    slots: Vec<Raise>,
+    order: IndexLists,
+    chains: IndexLists,
+    count: u32,
 }
 
 impl Model for FaultQueue {
-    ghost use Rattle.std.specs.Prelude.{◌≤◌, vec_capacity};
+    ghost use Rattle.std.specs.Prelude.{length};
+    ghost use Rattle.index_lists.specs.Lists.{list_at};
     ghost use Rattle.fault_queue.specs.Queues.{QueueSeen};
-    ghost use Rattle.fault_queue.specs.InsideQueues.{IsSound};
+    ghost use Rattle.fault_queue.specs.InsideQueues.{raises_in, IsSound};
 
     ghost Value = { QueueSeen };
 
-    ghost view = { λ q. record { raises = q.raises.items; capacity = q.capacity } };
+    ghost view = { λ q. record { raises = raises_in q.slots.items (list_at q.order 0); capacity = length q.slots.items } };
 
-    ghost invariant = { λ q. IsSound q.raises.items q.capacity × (q.capacity ≤ vec_capacity q.raises) };
+    ghost invariant = { λ q. IsSound q.slots.items q.order q.chains q.count };
 }
 
 impl FaultQueue {
@@ -41,8 +57,25 @@ impl FaultQueue {
         ensures empty { IfOk result (λ q. q.raises ≡ []) }
         ensures capacity { IfOk result (λ q. q.capacity ≡ capacity) }
     {
-        let raises = Vec::with_capacity(alloc, capacity as usize).map_err(|_| OutOfMemory)?;
-        Ok(FaultQueue { raises, capacity })
+        if capacity > MOST_SLOTS {
+            return Err(OutOfMemory);
+        }
+        let blank = Raise {
+            key: Key { region: 0, page: 0 },
+            why: Why::Read,
+        };
+        let slots = vec![in alloc; blank; capacity as usize].map_err(|_| OutOfMemory)?;
+        let chains = IndexLists::new(alloc, capacity, capacity)?;
+        let mut order = IndexLists::new(alloc, 2, capacity)?;
+        for slot in 0..capacity {
+            order.push_back(FREE, slot);
+        }
+        Ok(FaultQueue {
+            slots,
+            order,
+            chains,
+            count: 0,
+        })
     }
 
     /// Puts a raise at the end of the queue.
@@ -53,24 +86,35 @@ impl FaultQueue {
         ensures full { IsErr result ↔ (length self.old.raises ≡ self.old.capacity) }
         ensures err { OnErr result (self.new ≡ self.old) }
     {
-        if self.raises.len() == self.capacity as usize {
+        let Some(slot) = self.order.first(FREE) else {
             return Err(QueueFull);
-        }
-        self.raises.push_reserved(Raise { key, why });
+        };
+        self.order.sound();
+        self.order.remove(slot);
+        self.order.push_back(QUEUED, slot);
+        let bucket = bucket(self.slots.len(), key);
+        self.chains.push_back(bucket, slot);
+        self.slots[slot as usize] = Raise { key, why };
+        self.count += 1;
         Ok(())
     }
 
     /// The first raise that passes the test, in order.
     pub fn first_where<T: Fn(Key, Why) -> bool>(&self, test: T) -> Option<(Key, Why)>
         requires callable { (r : Raise) → Contains self.now.raises r → T.pre test r.key r.why }
-        ensures first { IfSome result (λ r. IsFirst (λ q b. T.post test q.key q.why b) self.now.raises (raise_of r)) }
+        ensures first { IfSome result (λ r. IsFirst (of_raise (T.post test)) self.now.raises (raise_of r)) }
         ensures none { IfNone result (All (λ r. T.post test r.key r.why false) self.now.raises) }
-        ensures computed { FindsComputed (λ r b. T.post test r.key r.why b) self.now.raises (option_map raise_of result) }
+        ensures computed { FindsComputed (of_raise (T.post test)) self.now.raises (option_map raise_of result) }
     {
-        for raise in &self.raises {
+        self.order.sound();
+        let mut at = self.order.first(QUEUED);
+        for _ in 0..self.count {
+            let slot = at.unwrap();
+            let raise = self.slots[slot as usize];
             if test(raise.key, raise.why) {
                 return Some((raise.key, raise.why));
             }
+            at = self.order.next(slot);
         }
         None
     }
@@ -79,10 +123,8 @@ impl FaultQueue {
     pub fn pending(&self, key: Key) -> Option<Why>
         ensures exact { result ≡ pending_why self.now.raises key }
     {
-        self.raises
-            .iter()
-            .find(|raise| raise.key == key)
-            .map(|raise| raise.why)
+        let slot = slot_of(&self.slots, &self.chains, key)?;
+        Some(self.slots[slot as usize].why)
     }
 
     /// Takes the raise of a page out of the queue.
@@ -91,8 +133,13 @@ impl FaultQueue {
         ensures why { pending_why self.old.raises key ≡ Some result }
         ensures others { self.new ≡ record self.old { raises = without key self.old.raises } }
     {
-        let at = place_of(&self.raises, key).unwrap();
-        self.raises.remove(at).why
+        let slot = slot_of(&self.slots, &self.chains, key).unwrap();
+        self.order.sound();
+        self.order.remove(slot);
+        self.order.push_back(FREE, slot);
+        self.chains.remove(slot);
+        self.count -= 1;
+        self.slots[slot as usize].why
     }
 
     /// The number of raises.
@@ -100,17 +147,40 @@ impl FaultQueue {
         ensures exact { result ≡ length self.now.raises }
         ensures within { result ≤ self.now.capacity }
     {
-        let raises = self.raises.len();
-        prove!(raises <= self.capacity as usize);
-        raises as u32
+        self.count
     }
 }
 
-/// Where the raise of a page stands.
-fn place_of(raises: &[Raise], key: Key) -> Option<usize>
-    ensures exact { result ≡ position (is_of key) raises.now }
+/// The bucket of a page.
+fn bucket(buckets: usize, key: Key) -> u32
+    requires some { 1 ≤ buckets }
+    requires few { buckets < 2147483648 }
+    ensures exact { result ≡ bucket_of buckets key }
+    ensures below { result < buckets }
 {
-    raises.iter().position(|raise| raise.key == key)
+    let number = u64::from(key.region) * 65537 + u64::from(key.page);
+    (number % buckets as u64) as u32
+}
+
+/// The slot of a page's raise, none where there is none. It walks the chain of the page's bucket.
+fn slot_of(slots: &[Raise], chains: &IndexLists, key: Key) -> Option<u32>
+    requires some { 1 ≤ length slots.now }
+    requires few { length slots.now < 2147483648 }
+    requires numbers { chains.now.numbers ≡ length slots.now }
+    requires lists { length chains.now.lists ≡ length slots.now }
+    requires short { length (list_at chains.now (bucket_of (length slots.now) key)) ≤ length slots.now }
+    ensures exact { result ≡ find (holds slots.now key) (list_at chains.now (bucket_of (length slots.now) key)) }
+    ensures within { IfSome result (λ slot. slot < length slots.now) }
+{
+    let mut at = chains.first(bucket(slots.len(), key));
+    for _ in 0..slots.len() {
+        let slot = at?;
+        if slots[slot as usize].key == key {
+            return Some(slot);
+        }
+        at = chains.next(slot);
+    }
+    None
 }
 
 #[cfg(test)]
@@ -152,6 +222,37 @@ mod tests {
         assert_eq!(rt; queue.first_where(|_, _| true), Some((SECOND, Why::Write)));
         assert_eq!(rt; queue.first_where(|key, _| key.region == 7), None);
         assert_eq!(rt; queue.len(), 2);
+        Ok(())
+    }
+
+    /// Two pages of one bucket, of which the first is withdrawn: the other is found behind it, and the order is that of the
+    /// raises, up to the capacity.
+    #[test]
+    fn a_bucket_has_two_pages(rt: HostRuntime) -> Result<(), Fail> {
+        const FOURTH: Key = Key { region: 0, page: 3 };
+        const SEVENTH: Key = Key { region: 0, page: 6 };
+        const TENTH: Key = Key { region: 0, page: 9 };
+        let mut queue = FaultQueue::new(rt.alloc(), 3)?;
+        let _ = queue.raise(FIRST, Why::Read);
+        let _ = queue.raise(FOURTH, Why::Read);
+        let _ = queue.raise(SECOND, Why::Write);
+        assert_eq!(rt; queue.pending(FOURTH), Some(Why::Read));
+        assert_eq!(rt; queue.pending(FIRST), Some(Why::Read));
+        assert_eq!(rt; queue.withdraw(FIRST), Why::Read);
+        assert_eq!(rt; queue.pending(FOURTH), Some(Why::Read));
+        assert_eq!(rt; queue.first_where(|_, _| true), Some((FOURTH, Why::Read)));
+        assert_eq!(rt; queue.pending(SEVENTH), None);
+        assert_eq!(rt; queue.raise(SEVENTH, Why::Ahead), Ok(()));
+        assert_eq!(rt;
+            queue.first_where(|key, _| key != FOURTH),
+            Some((SECOND, Why::Write))
+        );
+        assert_eq!(rt;
+            queue.first_where(|key, _| key.page > 3),
+            Some((SEVENTH, Why::Ahead))
+        );
+        assert_eq!(rt; queue.pending(TENTH), None);
+        assert_eq!(rt; queue.raise(TENTH, Why::Read), Err(QueueFull));
         Ok(())
     }
 }
