@@ -1,5 +1,5 @@
 -- What the parts make of the core after an event, by what the event leaves of each.
-use Rattle.std.proofs.Common.{Bool, List, Some, slice_get, [], ap, not, nat_le, slice_set, map, length, sym, ℕ, ◌+◌, ◌++◌, ◌∙◌, ◌∷◌, ◌≡◌, ◌||◌}
+use Rattle.std.proofs.Common.{Bool, List, Some, slice_get, [], ap, not, nat_le, map, length, sym, ℕ, ◌+◌, ◌++◌, ◌∙◌, ◌∷◌, ◌≡◌, ◌||◌}
 use Rattle.page_base.specs.Lanes.{LaneSeen}
 use Rattle.page_base.specs.Pages.{on_mark}
 use Rattle.page_base.specs.declared.keys.Key.{Key}
@@ -8,7 +8,7 @@ use Rattle.page_base.specs.declared.keys.Why.{Why}
 use Rattle.page_buffer.specs.Buffers.{BufferSeen}
 use Rattle.fault_queue.specs.Queues.{without}
 use Rattle.page_model.specs.declared.seen.Counts.{Counts}
-use Rattle.page_model.specs.Core.{Core, Resident, RegionSeen, Home, Reading, why_pending, why_out, why_of_place, frames_held}
+use Rattle.page_model.specs.Core.{Resident, Home, Reading, why_pending, why_out, why_of_place, frames_held}
 use Rattle.page_model.specs.Faults.{is_write}
 use Rattle.page_model.specs.Setups.{Setup}
 use Rattle.page_model.specs.Steps.{on_region, placed, read_missed, filled_page}

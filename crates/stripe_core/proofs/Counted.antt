@@ -1,8 +1,7 @@
 -- Counting what a change of one place changes.
-use Rattle.std.proofs.Common.{Bool, List, [], arith, cond, false, get_or, set, length, map, refl, ap, sym, true, zero, suc, ℕ, ◌+◌, ◌<◌, ◌∙◌, ◌∷◌, ◌≡◌}
+use Rattle.std.proofs.Common.{Bool, List, [], arith, cond, get_or, set, length, ap, sym, zero, suc, ℕ, ◌+◌, ◌<◌, ◌∙◌, ◌∷◌, ◌≡◌}
 use Rattle.std.specs.List.{count_by}
 use Rattle.std.proofs.lemmas.List.Sums.{sum_by-cons}
-use Rattle.std.specs.Prelude.{filter}
 
 abbrev pub one_if : Bool → ℕ
 one_if b = cond b 1 0

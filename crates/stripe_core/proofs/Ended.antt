@@ -6,14 +6,14 @@ use Rattle.page_model.specs.Core.{Home}
 use Rattle.page_model.specs.Setups.{Setup, has_page, is_page_of, pages_of}
 use Rattle.page_model.specs.Steps.{read_missed}
 use Rattle.std.proofs.lemmas.Option.{slice_get_within}
-use Rattle.std.proofs.Common.{length, refl, None, true, ◌<◌, List, Option, Some, ap, slice_get, sym, ℕ, ◌∙◌, ◌≡◌}
+use Rattle.std.proofs.Common.{length, refl, None, true, ◌<◌, List, Option, Some, ap, slice_get, ℕ, ◌∙◌, ◌≡◌}
 use Rattle.page_base.specs.declared.keys.Key.{Key}
 use Rattle.page_base.specs.declared.keys.Why.{Why}
 use Rattle.page_buffer.specs.Buffers.{BufferSeen}
 use Rattle.stripe_core.specs.declared.region.Lane.TheVariants as lane
 use Rattle.stripe_core.specs.declared.region.Region.{Region}
 use Rattle.stripe_core.specs.Parts.{Table, region_seen, place_of}
-use Rattle.stripe_core.specs.InsideParts.{ReadOut, read_of, reads_of}
+use Rattle.stripe_core.specs.InsideParts.{read_of, reads_of}
 use Rattle.stripe_core.specs.InsideTied.{Tied, read_at}
 use Rattle.stripe_core.specs.InsideMade.{IsFailed}
 use Rattle.stripe_core.proofs.Lanes.{read_is}

@@ -1,8 +1,8 @@
 -- A stripe that has just been made.
-use Rattle.std.proofs.Common.{Bool, List, None, Option, Some, Vec, [], ap, arith, cond, false, get_or, inl, inr, length, map, refl, replicate, slice_get, subst, suc, sym, true, zero, ℕ, ◌+◌, ◌<◌, ◌==◌, ◌∙◌, ◌∷◌, ◌≡◌, ◌≤◌, ◌&&◌}
-use Rattle.std.proofs.lemmas.Bool.{and_parts, ltb-true, cases_lt}
-use Rattle.std.proofs.lemmas.List.{get_or_past, length-map, length-replicate}
-use Rattle.std.proofs.lemmas.Option.{get_or_from_slice_get, slice_get-map, slice_get_within}
+use Rattle.std.proofs.Common.{List, None, Option, Some, Vec, [], ap, arith, false, get_or, length, map, refl, replicate, slice_get, subst, suc, sym, true, zero, ℕ, ◌<◌, ◌∙◌, ◌∷◌, ◌≡◌, ◌≤◌}
+use Rattle.std.proofs.lemmas.Bool.{and_parts, ltb-true}
+use Rattle.std.proofs.lemmas.List.{length-map, length-replicate}
+use Rattle.std.proofs.lemmas.Option.{slice_get-map, slice_get_within}
 use Rattle.std.specs.List.{count_by, list_all}
 use Rattle.std.specs.Option.{is_some, option_map, IfSome}
 use Rattle.std.specs.declared.alloc.Global.{Global}
@@ -10,13 +10,12 @@ use Rattle.page_base.specs.Lanes.{LaneSeen, told_at}
 use Rattle.page_base.specs.declared.keys.Key.{Key}
 use Rattle.page_base.specs.declared.keys.RegionShape.{RegionShape}
 use Rattle.soft_mmu.specs.declared.entry.PageEntry.{PageEntry}
-use Rattle.soft_mmu.specs.declared.entry.PageEntry.TheVariants.{Absent, Present}
+use Rattle.soft_mmu.specs.declared.entry.PageEntry.TheVariants.{Absent}
 use Rattle.soft_mmu.specs.Entries.{entry_of, HasPage, no_pages}
 use Rattle.soft_mmu.specs.Entries as table
-use Rattle.page_buffer.specs.Frames.{FrameSeen, Free, resident_key, is_reserved}
-use Rattle.page_buffer.specs.Buffers.{BufferSeen, frame_of, reserved_frames}
-use Rattle.page_model.specs.Core.{RegionSeen}
-use Rattle.page_model.specs.Setups.{Setup, Fits, IsLaneOf, quota, has_page, is_page_of, base_of, told_by, pages_of}
+use Rattle.page_buffer.specs.Frames.{Free, resident_key, is_reserved}
+use Rattle.page_buffer.specs.Buffers.{BufferSeen}
+use Rattle.page_model.specs.Setups.{Setup, Fits, quota, has_page, is_page_of, base_of, told_by, pages_of}
 use Rattle.page_model.specs.Steps.{fresh_regions, fresh}
 use Rattle.page_model.specs.Tallies.{no_counts}
 use Rattle.fault_queue.specs.Queues.{QueueSeen}
@@ -27,7 +26,7 @@ use Rattle.stripe_core.specs.declared.config.StripeConfig.{StripeConfig}
 use Rattle.stripe_core.specs.declared.region.Region.{Region}
 use Rattle.stripe_core.specs.Configs.{setup_of, CanMake}
 use Rattle.stripe_core.specs.InsideMade.{no_faults, regions_made, region_made}
-use Rattle.stripe_core.specs.Parts.{Table, page_seen, region_seen, core_of}
+use Rattle.stripe_core.specs.Parts.{page_seen, region_seen, core_of}
 use Rattle.stripe_core.specs.InsideParts.{ReadOut, reads_of}
 use Rattle.stripe_core.specs.InsideTied.{Tied, IsSized, frame_in, reserved_key, read_at}
 use Rattle.stripe_core.proofs.Counted.{count_cons}

@@ -1,11 +1,11 @@
 -- Keys that are the same, and look-ups by key in table, frames and lists.
-use Rattle.std.proofs.Common.{Bool, List, None, Option, Some, [], ap, cond, false, get_or, get_or-set_other, get_or-set_same, set, inl, inr, length, map, refl, slice_get, sym, true, zero, suc, ℕ, arith, ◌<◌, ◌≤◌, ◌==◌, ◌∙◌, ◌∷◌, ◌≡◌, ◌||◌}
-use Rattle.std.proofs.lemmas.Bool.{and_from, and_parts, and_right, and_left, cases_Bool, cases_eq, cases_lt, eq-eqb, eqb-true, false_from_ne_true, ne_eqb, cond-true, cond-false}
+use Rattle.std.proofs.Common.{List, None, Some, [], ap, false, get_or, get_or-set_other, get_or-set_same, set, inl, inr, length, refl, sym, true, zero, suc, ℕ, ◌<◌, ◌≤◌, ◌==◌, ◌∙◌, ◌∷◌, ◌≡◌}
+use Rattle.std.proofs.lemmas.Bool.{and_from, and_parts, cases_eq, cases_lt, eq-eqb, eqb-true, false_from_ne_true}
 use Rattle.std.proofs.lemmas.List.{get_or_past}
 use Rattle.page_base.specs.Pages.{same}
 use Rattle.page_base.specs.declared.keys.Key.{Key}
 use Rattle.soft_mmu.specs.declared.entry.PageEntry.{PageEntry}
-use Rattle.soft_mmu.specs.declared.entry.PageEntry.TheVariants.{Absent, Present}
+use Rattle.soft_mmu.specs.declared.entry.PageEntry.TheVariants.{Absent}
 use Rattle.soft_mmu.specs.Entries.{entry_of, pages_of, with_entry, HasPage}
 use Rattle.page_buffer.specs.Frames.{FrameSeen, Free, resident_key}
 use Rattle.page_buffer.specs.Buffers.{BufferSeen, frame_of, with_frame}

@@ -1,21 +1,19 @@
 -- Where the regions' lanes are, as the core sees it.
-use Rattle.std.proofs.Common.{Bool, List, None, Option, Some, [], ap, cond, false, get_or, inl, inr, length, length-set, map, refl, set, slice_get, slice_set, subst, suc, sym, true, ℕ, ◌<◌, ◌==◌, ◌∙◌, ◌∷◌, ◌≡◌, ◌≢◌}
+use Rattle.std.proofs.Common.{Bool, List, None, Option, Some, [], ap, length, map, refl, set, slice_get, slice_set, suc, sym, true, ℕ, ◌∙◌, ◌∷◌, ◌≡◌}
 use Rattle.std.proofs.lemmas.List.{map-set}
-use Rattle.std.proofs.lemmas.Bool.{cases_eq}
-use Rattle.std.proofs.lemmas.Option.{get_or_from_slice_get, slice_get-map, slice_get_within}
+use Rattle.std.proofs.lemmas.Option.{get_or_from_slice_get, slice_get-map}
 use Rattle.std.specs.Option.{option_map}
-use Rattle.page_base.specs.Pages.{same}
 use Rattle.page_base.specs.Lanes.{LaneSeen}
 use Rattle.page_base.specs.declared.keys.Key.{Key}
 use Rattle.page_base.specs.declared.keys.Why.{Why}
 use Rattle.page_model.specs.Core.{Core, LanePlace, RegionSeen, Home, Reading, Writing, is_home_place, place_passes}
 use Rattle.page_model.specs.Core as core
-use Rattle.page_model.specs.Steps.{on_region, put_back, placed}
+use Rattle.page_model.specs.Steps.{on_region, put_back}
 use Rattle.stripe_core.specs.declared.region.Lane.{Lane}
 use Rattle.stripe_core.specs.declared.region.Lane.TheVariants as lane
 use Rattle.stripe_core.specs.declared.region.Region.{Region}
 use Rattle.stripe_core.specs.Parts.{place_of, region_seen}
-use Rattle.stripe_core.specs.InsideParts.{ReadOut, read_of, reads_of}
+use Rattle.stripe_core.specs.InsideParts.{read_of, reads_of}
 use Rattle.stripe_core.specs.InsideTied.{read_at}
 use Rattle.page_model.specs.Readers.{IsReadOut}
 use Rattle.page_model.specs.Trips.{Trip}

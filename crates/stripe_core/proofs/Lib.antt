@@ -13,6 +13,7 @@ pub mod Cores
 pub mod Rebits
 pub mod Writing
 pub mod Making
+pub mod NextDirty
 pub mod Firsts
 pub mod Releases
 pub mod Finds

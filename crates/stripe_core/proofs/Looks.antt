@@ -1,39 +1,31 @@
 -- What table, frames and regions say of one page, and how the core says it.
-use Rattle.std.proofs.Common.{Bool, List, None, Option, Some, [], ap, cond, false, get_or, inl, inr, length, map, not, refl, slice_get, slice_range, subst, sym, true, ℕ, ◌+◌, ◌<◌, ◌==◌, ◌∙◌, ◌∷◌, ◌≡◌, ◌||◌, ◌≢◌}
-use Rattle.std.proofs.lemmas.Bool.{cases_Bool, or_cases}
-use Rattle.std.specs.List.{list_any, find}
-use Rattle.std.specs.Option.{is_some, option_map}
+use Rattle.std.proofs.Common.{Bool, List, None, Option, Some, [], ap, cond, false, length, map, refl, slice_range, sym, true, ℕ, ◌+◌, ◌∙◌, ◌∷◌, ◌≡◌, ◌||◌}
+use Rattle.std.specs.List.{find}
+use Rattle.std.specs.Option.{is_some}
 use Rattle.page_base.specs.Pages.{same}
 use Rattle.page_base.specs.declared.keys.Key.{Key}
-use Rattle.page_base.specs.declared.keys.Raise.{Raise}
-use Rattle.page_base.specs.Lanes.{LaneSeen}
 use Rattle.soft_mmu.specs.declared.entry.PageEntry.{PageEntry}
 use Rattle.soft_mmu.specs.declared.entry.PageEntry.TheVariants.{Absent, Present}
 use Rattle.soft_mmu.specs.declared.entry.Wants.{Wants}
 use Rattle.soft_mmu.specs.declared.entry.Wants.TheVariants as wants
-use Rattle.soft_mmu.specs.declared.entry.Found.{Found}
 use Rattle.soft_mmu.specs.declared.entry.Found.TheVariants.{Hit, Missing, Protected}
 use Rattle.soft_mmu.specs.Entries.{entry_of, translation, bits_of}
 use Rattle.page_buffer.specs.Frames.{FrameSeen, Free, Reserved, resident_key, is_resident, bytes_of}
 use Rattle.page_buffer.specs.Frames as frame
 use Rattle.page_buffer.specs.Buffers.{BufferSeen, frame_of}
-use Rattle.page_model.specs.declared.seen.Counts.{Counts}
-use Rattle.page_model.specs.Core.{Resident, Core, page_at, is_present, is_guarded, protects, is_dirty, dirties, is_closing, closes, region_at, is_pending, is_reading, is_full}
+use Rattle.page_model.specs.Core.{Resident, Core, page_at, is_present, is_guarded, protects, is_dirty, dirties, is_closing, is_pending, is_reading, is_full}
 use Rattle.page_model.specs.Residents.{is_in}
 use Rattle.page_model.specs.Events.{InPage, CanLoad}
-use Rattle.page_model.specs.Setups.{Setup}
-use Rattle.stripe_core.specs.declared.answers.Look.{Look}
 use Rattle.stripe_core.specs.declared.answers.Look.TheVariants as look
-use Rattle.stripe_core.specs.declared.region.Region.{Region}
 use Rattle.page_model.specs.declared.entry.HintAnswer.{HintAnswer}
 use Rattle.page_model.specs.declared.entry.HintAnswer.TheVariants as answer
 use Rattle.page_model.specs.Steps.{hinted}
 use Rattle.stripe_core.specs.declared.answers.Raise.TheVariants as raise
 use Rattle.stripe_core.specs.Answers.{load_look, save_look, raise_answer, GivesBytes}
-use Rattle.stripe_core.specs.Parts.{Table, page_in, page_seen, pages_seen, region_seen, core_of}
+use Rattle.stripe_core.specs.Parts.{Table, page_in, page_seen, pages_seen}
 use Rattle.stripe_core.specs.InsideParts.{ReadOut}
 use Rattle.stripe_core.specs.InsideTied.{Tied, frame_in}
-use Rattle.stripe_core.proofs.Keys.{same-true, same_self}
+use Rattle.stripe_core.proofs.Keys.{same-true}
 
 pub page_key : (b : BufferSeen) (k : Key) (e : PageEntry) → (page_in b k e).key ≡ k
 page_key b k Absent = refl

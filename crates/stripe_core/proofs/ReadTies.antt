@@ -1,9 +1,9 @@
 -- That a read's start and its ends keep table, frames and reads tied.
-use Rattle.std.proofs.Common.{Bool, List, None, Option, Some, [], ap, arith, cond, false, get_or, get_or-set_other, get_or-set_same, inl, inr, length, map, refl, set, subst, sym, true, ℕ, ◌+◌, ◌++◌, ◌<◌, ◌==◌, ◌∙◌, ◌∷◌, ◌≡◌, ◌≢◌, ◌≤◌, ◌⊎◌, ◌||◌}
+use Rattle.std.proofs.Common.{Bool, List, None, Option, Some, [], ap, arith, false, get_or-set_other, get_or-set_same, inl, inr, length, map, refl, set, subst, sym, true, ℕ, ◌++◌, ◌<◌, ◌∙◌, ◌∷◌, ◌≡◌, ◌||◌}
 use Rattle.std.proofs.lemmas.Bool.{cases_Bool, cases_eq, cases_lt, or_parts}
 use Rattle.std.proofs.lemmas.List.{get_or_past, map-append}
 use Rattle.std.proofs.lemmas.List.Folds.{list_any-append}
-use Rattle.std.specs.List.{count_by, list_any}
+use Rattle.std.specs.List.{count_by}
 use Rattle.std.specs.Option.{is_some}
 use Rattle.page_base.specs.Pages.{same}
 use Rattle.page_base.specs.declared.keys.Key.{Key}
@@ -19,7 +19,7 @@ use Rattle.stripe_core.specs.Parts.{Table, page_in, page_seen, pages_seen}
 use Rattle.stripe_core.specs.InsideParts.{ReadOut}
 use Rattle.stripe_core.specs.InsideTied.{Tied, frame_in, reserved_key, read_at}
 use Rattle.stripe_core.proofs.Counted.{count_set, one_if}
-use Rattle.stripe_core.proofs.Keys.{same-true, same_self, not_same, entry_set, entry_kept, frame_set, frame_kept, resident_within, reserved_within}
+use Rattle.stripe_core.proofs.Keys.{same-true, same_self, entry_set, entry_kept, frame_set, frame_kept, reserved_within}
 use Rattle.stripe_core.proofs.Ties.{page_as}
 
 -- ---- reads by region

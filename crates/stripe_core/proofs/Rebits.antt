@@ -1,9 +1,8 @@
 -- What a change of one page's entry makes of the pages that are seen, where the page keeps its frame.
-use Rattle.std.proofs.Common.{Bool, List, None, Option, Some, ap, cond, false, inl, inr, is_some, map, not, refl, subst, sym, true, ℕ, ◌&&◌, ◌∙◌, ◌≡◌, ◌==◌}
+use Rattle.std.proofs.Common.{ap, false, inl, inr, is_some, not, refl, subst, sym, true, ◌&&◌, ◌∙◌, ◌≡◌}
 use Rattle.std.proofs.lemmas.Bool.{cases_Bool}
 use Rattle.page_base.specs.Pages.{same}
 use Rattle.page_base.specs.declared.keys.Key.{Key}
-use Rattle.soft_mmu.specs.declared.entry.Bits.{Bits}
 use Rattle.soft_mmu.specs.declared.entry.PageEntry.{PageEntry}
 use Rattle.soft_mmu.specs.declared.entry.PageEntry.TheVariants.{Absent, Present}
 use Rattle.soft_mmu.specs.Entries.{entry_of, with_entry, HasPage, is_present, is_protected, opened, closed, cleaned, bits_of}

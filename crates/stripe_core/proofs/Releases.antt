@@ -1,15 +1,14 @@
 -- That an eviction keeps table, frames and reads tied, and that the page alone leaves.
-use Rattle.std.proofs.Common.{Bool, List, None, Option, Some, [], ap, arith, cond, false, inl, inr, map, not, refl, subst, sym, true, ℕ, ◌<◌, ◌==◌, ◌∙◌, ◌∷◌, ◌≡◌, ◌||◌}
+use Rattle.std.proofs.Common.{Bool, List, None, Option, Some, [], ap, arith, cond, false, inl, inr, map, not, refl, subst, sym, true, ℕ, ◌∙◌, ◌∷◌, ◌≡◌, ◌||◌}
 use Rattle.std.proofs.lemmas.Bool.{cases_Bool, cases_eq}
 use Rattle.std.specs.Option.{is_some}
 use Rattle.page_base.specs.Pages.{same}
 use Rattle.page_base.specs.declared.keys.Key.{Key}
-use Rattle.soft_mmu.specs.declared.entry.PageEntry.{PageEntry}
-use Rattle.soft_mmu.specs.declared.entry.PageEntry.TheVariants.{Absent, Present}
+use Rattle.soft_mmu.specs.declared.entry.PageEntry.TheVariants.{Absent}
 use Rattle.soft_mmu.specs.Entries.{entry_of, with_entry, HasPage}
 use Rattle.page_buffer.specs.Frames.{FrameSeen, Free, Reserved, resident_key, is_reserved, page_of}
 use Rattle.page_buffer.specs.Frames as frame
-use Rattle.page_buffer.specs.Buffers.{BufferSeen, frame_of, with_frame, released, reserved_frames, without}
+use Rattle.page_buffer.specs.Buffers.{BufferSeen, frame_of, with_frame, released, without}
 use Rattle.page_model.specs.Core.{Resident}
 use Rattle.page_model.specs.Residents.{is_in}
 use Rattle.page_model.specs.Steps.{without_page}
@@ -17,7 +16,7 @@ use Rattle.stripe_core.specs.Parts.{Table, page_in, page_seen, pages_seen}
 use Rattle.stripe_core.specs.InsideParts.{ReadOut}
 use Rattle.stripe_core.specs.InsideTied.{Tied, frame_in, reserved_key}
 use Rattle.stripe_core.proofs.Counted.{count_set, one_if}
-use Rattle.stripe_core.proofs.Keys.{same-true, same_self, not_same, entry_set, entry_kept, frame_set, frame_kept, resident_within}
+use Rattle.stripe_core.proofs.Keys.{same-true, same_self, entry_set, entry_kept, frame_set, frame_kept, resident_within}
 use Rattle.stripe_core.proofs.Looks.{page_key}
 use Rattle.stripe_core.proofs.Ties.{page_as, frames_apart}
 

@@ -1,7 +1,7 @@
 -- That the events keep the sizes that the stripe was made with.
 use Rattle.std.proofs.lemmas.Bool.{and_parts, and_from}
 use Rattle.std.proofs.lemmas.List.Folds.{list_all-append}
-use Rattle.std.proofs.Common.{Bool, arith, cond, false, get_or, ◌&&◌, ◌++◌, ◌<◌, ◌⊎◌, ◌∷◌, slice_set, suc, zero, List, Option, Some, [], inl, inr, length, refl, slice_get, set, sym, true, ℕ, ap, ◌∙◌, ◌≡◌, length-set}
+use Rattle.std.proofs.Common.{Bool, arith, cond, false, get_or, ◌&&◌, ◌++◌, ◌<◌, ◌⊎◌, ◌∷◌, slice_set, suc, zero, List, Some, [], inl, inr, length, refl, slice_get, set, true, ℕ, ap, ◌∙◌, ◌≡◌, length-set}
 use Rattle.page_base.specs.declared.keys.Key.{Key}
 use Rattle.page_base.specs.declared.keys.Marks.{Marks}
 use Rattle.page_base.specs.declared.keys.Raise.{Raise}
@@ -12,7 +12,7 @@ use Rattle.soft_mmu.specs.Entries.{with_entry, HasPage}
 use Rattle.page_buffer.specs.Frames.{FrameSeen}
 use Rattle.page_buffer.specs.Buffers.{BufferSeen, with_frame}
 use Rattle.fault_queue.specs.Queues.{QueueSeen}
-use Rattle.page_model.specs.Setups.{has_page, pages_of}
+use Rattle.page_model.specs.Setups.{has_page}
 use Rattle.stripe_core.specs.declared.config.StripeConfig.{StripeConfig}
 use Rattle.stripe_core.specs.declared.region.Region.{Region}
 use Rattle.stripe_core.specs.Configs.{setup_of}

@@ -1,7 +1,6 @@
 -- That a change of bits or bytes keeps table, frames and reads tied, and what it makes of the pages that are seen.
-use Rattle.std.proofs.Common.{Bool, List, None, Option, Some, [], ap, arith, cond, drop, false, get_or, inl, inr, length, length-append, length-drop, length-take, map, refl, set, subst, sym, take, true, ℕ, ◌+◌, ◌++◌, ◌-◌, ◌<◌, ◌==◌, ◌∙◌, ◌∷◌, ◌≡◌, ◌≢◌, ◌≤◌, ◌⊎◌}
+use Rattle.std.proofs.Common.{Bool, List, None, Option, Some, [], ap, arith, cond, drop, false, inl, inr, length, length-append, length-drop, length-take, map, refl, subst, sym, take, true, ℕ, ◌+◌, ◌++◌, ◌-◌, ◌<◌, ◌∙◌, ◌∷◌, ◌≡◌, ◌≤◌}
 use Rattle.std.proofs.lemmas.Bool.{cases_Bool, cases_eq}
-use Rattle.std.specs.List.{count_by}
 use Rattle.std.proofs.lemmas.Grind.{common_steps}
 use Rattle.std.proofs.lemmas.List.{drop-drop}
 use Rattle.std.specs.Option.{is_some}
@@ -19,9 +18,9 @@ use Rattle.page_model.specs.Residents.{is_in}
 use Rattle.page_model.specs.Steps.{on_page}
 use Rattle.stripe_core.specs.Parts.{Table, page_in, page_seen, pages_seen}
 use Rattle.stripe_core.specs.InsideParts.{ReadOut}
-use Rattle.stripe_core.specs.InsideTied.{Tied, frame_in, reserved_key, read_at}
+use Rattle.stripe_core.specs.InsideTied.{Tied, frame_in, reserved_key}
 use Rattle.stripe_core.proofs.Counted.{count_set, one_if}
-use Rattle.stripe_core.proofs.Keys.{same-true, same_self, not_same, entry_set, entry_kept, frame_set, frame_kept, resident_within}
+use Rattle.stripe_core.proofs.Keys.{same-true, same_self, entry_set, entry_kept, frame_set, frame_kept, resident_within}
 use Rattle.stripe_core.proofs.Looks.{page_key, holds_page}
 
 -- ---- what a change leaves tied

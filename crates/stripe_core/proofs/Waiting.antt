@@ -1,5 +1,5 @@
 -- Pages that wait, and reads that are out.
-use Rattle.std.proofs.Common.{Bool, List, None, Option, Some, [], ap, suc, get_or, arith, cond, false, length, map, not, refl, sym, true, ℕ, ◌+◌, ◌==◌, ◌∙◌, ◌∷◌, ◌≡◌, ◌||◌}
+use Rattle.std.proofs.Common.{Bool, List, None, Option, Some, [], ap, suc, get_or, arith, cond, false, length, map, refl, sym, true, ℕ, ◌+◌, ◌∙◌, ◌∷◌, ◌≡◌, ◌||◌}
 use Rattle.std.specs.List.{list_any, find, filter, count_by}
 use Rattle.std.specs.Option.{is_some, option_map}
 use Rattle.page_base.specs.Pages.{same}

@@ -1,5 +1,5 @@
 -- The core and its history around a write, and what a change of the regions makes of the core.
-use Rattle.std.proofs.Common.{Bool, List, Some, [], ap, false, map, refl, slice_get, sym, true, ℕ, ◌+◌, ◌==◌, ◌∙◌, ◌∷◌, ◌≡◌}
+use Rattle.std.proofs.Common.{Bool, List, ap, false, map, refl, true, ℕ, ◌+◌, ◌∙◌, ◌∷◌, ◌≡◌}
 use Rattle.std.proofs.lemmas.Bool.{eq-eqb}
 use Rattle.histories.specs.Histories.{History}
 use Rattle.page_base.specs.Lanes.{LaneSeen}

@@ -1,6 +1,7 @@
 -- What a stripe may be made with.
 use Rattle.std.specs.Prelude.{ℕ, ◌≡◌, ◌<◌, ◌≤◌, List, length, slice_get, Some, sum_by}
 use Rattle.page_base.specs.declared.keys.RegionShape.{RegionShape}
+use Rattle.page_base.specs.declared.limits.TheConstants.{MOST_FAULTS, MOST_REGIONS, MOST_PAGES}
 use Rattle.page_base.specs.Lanes.{LaneSeen}
 use Rattle.page_model.specs.Setups.{Setup, IsLaneOf}
 use Rattle.stripe_core.specs.declared.config.StripeConfig.{StripeConfig}
@@ -23,11 +24,11 @@ setup_of c lanes = record {
 pub record CanMake (c : StripeConfig) (given : List LaneSeen) : Type 0 where
   pub number : c.number < c.layout.stripes
   pub some_fault : 1 ≤ c.faults
-  pub few_faults : c.faults ≤ 4096
+  pub few_faults : c.faults ≤ MOST_FAULTS
   pub marks : c.low < c.high
   pub percent : c.high ≤ 100
-  pub few_regions : length c.shapes.items ≤ 64
-  pub few_pages : sum_by (λ (s : RegionShape). s.pages) c.shapes.items ≤ 1048576
+  pub few_regions : length c.shapes.items ≤ MOST_REGIONS
+  pub few_pages : sum_by (λ (s : RegionShape). s.pages) c.shapes.items ≤ MOST_PAGES
   pub groups : (r : ℕ) (s : RegionShape) → slice_get c.shapes.items r ≡ Some s → 1 ≤ s.group
   pub lane_count : length given ≡ length c.shapes.items
   pub lanes : (r : ℕ) (s : RegionShape) (lane : LaneSeen) → slice_get c.shapes.items r ≡ Some s → slice_get given r ≡ Some lane → IsLaneOf (setup_of c given) r s lane.origin

@@ -1,10 +1,18 @@
--- The regions of a stripe that has just been made.
+-- The parts of a stripe that has just been made.
 use Rattle.std.specs.Prelude.{ℕ, false, List, [], ◌∷◌, ◌≡◌, replicate, slice_set}
 use Rattle.std.proofs.Common.{Vec}
 use Rattle.std.specs.declared.alloc.Global.{Global}
 use Rattle.page_base.specs.declared.keys.RegionShape.{RegionShape}
+use Rattle.page_buffer.specs.Buffers.{BufferSeen, all_free}
+use Rattle.page_model.specs.Setups.{quota}
+use Rattle.stripe_core.specs.declared.config.StripeConfig.{StripeConfig}
 use Rattle.stripe_core.specs.declared.region.Lane.TheVariants as lane
 use Rattle.stripe_core.specs.declared.region.Region.{Region}
+use Rattle.stripe_core.specs.Configs.{setup_of}
+
+-- as many free frames as the quota
+abbrev pub buffer_made : StripeConfig → BufferSeen
+buffer_made c = all_free (quota (setup_of c [])) c.layout.page_size
 
 -- the read faults of a region none of whose reads failed
 abbrev pub no_faults : RegionShape → List ℕ

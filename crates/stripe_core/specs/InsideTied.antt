@@ -1,5 +1,5 @@
 -- What ties the parts of a stripe to one another between calls. No contract cites this.
-use Rattle.std.specs.Prelude.{ℕ, ◌+◌, ◌≡◌, ◌≤◌, ◌<◌, List, [], length, map, count_by, slice_get, slice_index_or, Option, Some, None, is_some, true}
+use Rattle.std.specs.Prelude.{ℕ, ◌+◌, ◌≡◌, ◌≤◌, List, length, count_by, slice_get, slice_index_or, Option, Some, None, is_some, true}
 use Rattle.std.specs.List.{list_all}
 use Rattle.page_base.specs.declared.keys.Key.{Key}
 use Rattle.page_base.specs.declared.keys.Marks.{Marks}
@@ -13,13 +13,13 @@ use Rattle.page_buffer.specs.Frames.{FrameSeen, Free, Reserved, Resident, reside
 use Rattle.page_buffer.specs.Buffers.{BufferSeen, frame_of, reserved_frames}
 use Rattle.fault_queue.specs.Queues.{QueueSeen}
 use Rattle.page_model.specs.declared.seen.Counts.{Counts}
-use Rattle.page_model.specs.Setups.{Setup, quota, has_page, pages_of}
+use Rattle.page_model.specs.Setups.{quota, has_page, pages_of}
 use Rattle.page_model.specs.Residents.{is_in}
 use Rattle.stripe_core.specs.declared.config.StripeConfig.{StripeConfig}
 use Rattle.stripe_core.specs.declared.region.Region.{Region}
 use Rattle.stripe_core.specs.Configs.{setup_of}
 use Rattle.stripe_core.specs.Parts.{Table}
-use Rattle.stripe_core.specs.InsideParts.{ReadOut, reads_of}
+use Rattle.stripe_core.specs.InsideParts.{ReadOut}
 
 -- the frame that an entry names
 abbrev pub frame_in : PageEntry → Option ℕ

@@ -4,6 +4,9 @@ pub mod InsideMade
 pub mod Parts
 pub mod InsideParts
 pub mod InsideTied
+pub mod Standing
+pub mod Fixed
+pub mod InsideSteps
 pub mod Trips
 pub mod Copies
 pub mod FrameStates

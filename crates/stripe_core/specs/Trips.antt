@@ -11,3 +11,7 @@ pub record TripSeen : Type 0 where
 
 abbrev pub trip_seen : (key : Key) (at : ℕ) (taken lane : LaneSeen) → TripSeen
 trip_seen key at taken lane = record { start = record { key = key; at = at; taken = taken }; lane = lane }
+
+-- the trip with this lane
+abbrev pub with_lane : {S : Type 0} → (S → LaneSeen) → TripSeen → S → TripSeen
+with_lane seen t lane = record t { lane = seen lane }

@@ -1,13 +1,11 @@
 //! Loads and stores of resident pages: one look-up, one copy.
-ghost use Rattle.std.specs.Prelude.{◌≡◌, ◌≢◌, ◌<◌, ◌^◌, ◌∷◌, ℕ, length, true};
-ghost use Rattle.histories.specs.Histories.{History};
-ghost use Rattle.page_model.specs.declared.entry.Entry.{Entry};
+ghost use Rattle.std.specs.Prelude.{◌≡◌, ◌≢◌, ◌<◌, ◌^◌, length, true};
 ghost use Rattle.page_model.specs.declared.entry.Entry.TheVariants as entry;
 ghost use Rattle.page_model.specs.Events.{InPage};
 ghost use Rattle.page_model.specs.Setups.{is_writable};
-ghost use Rattle.page_model.specs.Stands.{StandsFor};
 ghost use Rattle.page_model.specs.Steps as step;
 ghost use Rattle.stripe_core.specs.Answers.{load_look, save_look, GivesBytes};
+ghost use Rattle.stripe_core.specs.Standing.{StandsAfter};
 
 use crate::answers::Look;
 use crate::stripe::Stripe;
@@ -81,7 +79,7 @@ impl<S: Store> Stripe<S> {
         ensures same { result ≢ Look.Hit → self.new ≡ self.old }
         ensures untouched { result ≢ Look.Hit → buf.new ≡ buf.old }
         ensures fixed { self.new.setup ≡ self.old.setup }
-        ensures stands { result ≡ Look.Hit → (h : History Entry) (o : ℕ) → StandsFor h self.old → StandsFor ((o, entry.Load key place buf.new) ∷ h) self.new }
+        ensures stands { result ≡ Look.Hit → StandsAfter (entry.Load key place buf.new) self.old self.new }
     {
         load_stands();
         self.load_step(key, place, buf)
@@ -96,7 +94,7 @@ impl<S: Store> Stripe<S> {
         ensures step { result ≡ Look.Hit → self.new ≡ step.save self.old key place bytes.now }
         ensures same { result ≢ Look.Hit → self.new ≡ self.old }
         ensures fixed { self.new.setup ≡ self.old.setup }
-        ensures stands { result ≡ Look.Hit → (h : History Entry) (o : ℕ) → StandsFor h self.old → StandsFor ((o, entry.Save key place bytes.now) ∷ h) self.new }
+        ensures stands { result ≡ Look.Hit → StandsAfter (entry.Save key place bytes.now) self.old self.new }
     {
         save_stands();
         self.save_step(key, place, bytes)

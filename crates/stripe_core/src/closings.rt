@@ -1,13 +1,11 @@
 //! Closing a region, and unmapping it once nothing of it is left.
-ghost use Rattle.std.specs.Prelude.{◌≡◌, ◌<◌, ◌^◌, ◌∷◌, ℕ, false};
-ghost use Rattle.histories.specs.Histories.{History};
-ghost use Rattle.page_model.specs.declared.entry.Entry.{Entry};
+ghost use Rattle.std.specs.Prelude.{◌≡◌, ◌<◌, ◌^◌, false};
 ghost use Rattle.page_model.specs.declared.entry.Entry.TheVariants as entry;
 ghost use Rattle.page_model.specs.Core as core;
 ghost use Rattle.page_model.specs.Events.{CanUnmap};
 ghost use Rattle.page_model.specs.Setups.{regions};
-ghost use Rattle.page_model.specs.Stands.{StandsFor};
 ghost use Rattle.page_model.specs.Steps as step;
+ghost use Rattle.stripe_core.specs.Standing.{StandsAfter};
 
 use crate::stripe::Stripe;
 use page_model::events::{closing_stands, unmapped_stands};
@@ -43,7 +41,7 @@ impl<S: Store> Stripe<S> {
         requires first { core.is_closing self.old region ≡ false }
         ensures step { self.new ≡ step.closing self.old region }
         ensures fixed { self.new.setup ≡ self.old.setup }
-        ensures stands { (h : History Entry) (o : ℕ) → StandsFor h self.old → StandsFor ((o, entry.Closing region) ∷ h) self.new }
+        ensures stands { StandsAfter (entry.Closing region) self.old self.new }
     {
         closing_stands();
         self.closing_step(region)
@@ -55,7 +53,7 @@ impl<S: Store> Stripe<S> {
         requires can { CanUnmap self.old region }
         ensures step { self.new ≡ step.unmapped self.old region }
         ensures fixed { self.new.setup ≡ self.old.setup }
-        ensures stands { (h : History Entry) (o : ℕ) → StandsFor h self.old → StandsFor ((o, entry.Unmapped region) ∷ h) self.new }
+        ensures stands { StandsAfter (entry.Unmapped region) self.old self.new }
     {
         unmapped_stands();
         self.unmapped_step(region)

@@ -11,6 +11,7 @@ use crate::answers::FrameState;
 use crate::stripe::Stripe;
 use page_base::{Key, Why};
 use page_model::Pick;
+use page_model::events::flush_knows;
 use store_trait::Store;
 
 impl<S: Store> Stripe<S> {
@@ -39,6 +40,15 @@ impl<S: Store> Stripe<S> {
             Some(key) => Some(self.pick_of(key)),
             None => None,
         }
+    }
+
+    /// The least dirty page past a key, of all where none is given: what a flush writes next. It walks the table on from
+    /// behind the key and passes over leaves and regions in which nothing is dirty, so a whole flush walks the table once.
+    pub fn next_dirty(&self, after: Option<Key>) -> Option<Key>
+        ensures exact { result ≡ core.next_dirty self.now after }
+    {
+        flush_knows();
+        self.table.next_dirty(after)
     }
 
     /// Whether no page of the region is resident, pending, being read or being written.

@@ -1,14 +1,12 @@
 //! Evictions: a clean page leaves its frame.
-ghost use Rattle.std.specs.Prelude.{◌≡◌, ◌<◌, ◌+◌, ◌^◌, ◌∷◌, ◌&&◌, ℕ, nat_lt, length, true};
-ghost use Rattle.histories.specs.Histories.{History};
-ghost use Rattle.page_base.specs.Pages.{off_mark};
-ghost use Rattle.page_model.specs.declared.entry.Entry.{Entry};
+ghost use Rattle.std.specs.Prelude.{◌≡◌, ◌<◌, ◌+◌, ◌^◌, ◌&&◌, nat_lt, true};
 ghost use Rattle.page_model.specs.declared.entry.Entry.TheVariants as entry;
 ghost use Rattle.page_model.specs.Core as core;
 ghost use Rattle.page_model.specs.Events.{CanEvict};
-ghost use Rattle.page_model.specs.Setups.{has_page, quota};
-ghost use Rattle.page_model.specs.Stands.{StandsFor};
+ghost use Rattle.page_model.specs.Setups.{has_page};
 ghost use Rattle.page_model.specs.Steps as step;
+ghost use Rattle.stripe_core.specs.InsideSteps.{eviction_counted};
+ghost use Rattle.stripe_core.specs.Standing.{StandsAfter};
 ghost use Rattle.page_model.specs.Steps.{without_page};
 
 use crate::stripe::Stripe;
@@ -35,7 +33,7 @@ impl<S: Store> Stripe<S> {
 
     fn count_eviction(&mut self)
         requires few { self.old.events < 2 ^ 62 }
-        ensures step { self.new ≡ record self.old { evicting = nat_lt (off_mark (core.frames_held self.old) self.old.setup.low) (length self.old.pages) && self.old.evicting; counts = record self.old.counts { evictions = self.old.counts.evictions + 1 }; events = self.old.events + 1 } }
+        ensures step { self.new ≡ eviction_counted self.old }
     {
         let still = goes_on(self.buffer.resident(), self.marks.off, self.evicting);
         self.evicting = still;
@@ -60,7 +58,7 @@ impl<S: Store> Stripe<S> {
         requires can { CanEvict self.old key why }
         ensures step { self.new ≡ step.evict self.old key }
         ensures fixed { self.new.setup ≡ self.old.setup }
-        ensures stands { (h : History Entry) (o : ℕ) → StandsFor h self.old → StandsFor ((o, entry.Evicted key why) ∷ h) self.new }
+        ensures stands { StandsAfter (entry.Evicted key why) self.old self.new }
     {
         evict_stands();
         self.free_page(key);

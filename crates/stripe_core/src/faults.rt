@@ -1,16 +1,14 @@
 //! Faults: how a page comes to wait, and what is served next.
-ghost use Rattle.std.specs.Prelude.{◌≡◌, ◌≢◌, ◌<◌, ◌^◌, ◌∷◌, ◌&&◌, ℕ, true, false, find, option_map};
+ghost use Rattle.std.specs.Prelude.{◌≡◌, ◌≢◌, ◌<◌, ◌^◌, ◌&&◌, true, false, find, option_map};
 ghost use Rattle.std.specs.List.{list_any};
-ghost use Rattle.histories.specs.Histories.{History};
-ghost use Rattle.page_model.specs.declared.entry.Entry.{Entry};
 ghost use Rattle.page_model.specs.declared.entry.Entry.TheVariants as entry;
 ghost use Rattle.page_model.specs.Core as core;
 ghost use Rattle.page_model.specs.Events.{CanRaiseFor};
 ghost use Rattle.page_model.specs.Setups.{has_page, regions};
-ghost use Rattle.page_model.specs.Stands.{StandsFor};
 ghost use Rattle.page_model.specs.Steps as step;
 ghost use Rattle.fault_queue.specs.Queues.{raise_of};
 ghost use Rattle.stripe_core.specs.Answers.{raise_answer};
+ghost use Rattle.stripe_core.specs.Standing.{StandsAfter};
 
 use crate::answers::Raise;
 use crate::stripe::Stripe;
@@ -135,7 +133,7 @@ impl<S: Store> Stripe<S> {
         ensures step { result ≡ Raise.Raised → self.new ≡ step.raise self.old key why }
         ensures same { result ≢ Raise.Raised → self.new ≡ self.old }
         ensures fixed { self.new.setup ≡ self.old.setup }
-        ensures stands { result ≡ Raise.Raised → (h : History Entry) (o : ℕ) → StandsFor h self.old → StandsFor ((o, entry.Raised key why) ∷ h) self.new }
+        ensures stands { result ≡ Raise.Raised → StandsAfter (entry.Raised key why) self.old self.new }
     {
         raise_stands();
         self.raise_step(key, why)
@@ -148,7 +146,7 @@ impl<S: Store> Stripe<S> {
         ensures answer { result ≡ core.hint_answer self.old key }
         ensures step { self.new ≡ step.hint self.old key }
         ensures fixed { self.new.setup ≡ self.old.setup }
-        ensures stands { (h : History Entry) (o : ℕ) → StandsFor h self.old → StandsFor ((o, entry.Hint key result) ∷ h) self.new }
+        ensures stands { StandsAfter (entry.Hint key result) self.old self.new }
     {
         hint_stands();
         self.hint_step(key)

@@ -20,8 +20,6 @@ mod reads;
 mod region;
 mod room;
 mod stripe;
-#[cfg(test)]
-mod tests;
 mod trip;
 mod writes;
 

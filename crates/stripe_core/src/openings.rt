@@ -1,5 +1,5 @@
 //! Faults that are served without a read: a protected page is opened to stores, a stale fault is dropped.
-ghost use Rattle.std.specs.Prelude.{◌≡◌, ◌<◌, ◌^◌, ◌∷◌, ℕ, true};
+ghost use Rattle.std.specs.Prelude.{◌≡◌, ◌<◌, ◌^◌, true};
 ghost use Rattle.histories.specs.Histories.{History};
 ghost use Rattle.page_model.specs.declared.entry.Entry.{Entry};
 ghost use Rattle.page_model.specs.declared.entry.Entry.TheVariants as entry;
@@ -9,6 +9,7 @@ ghost use Rattle.page_model.specs.Core as core;
 ghost use Rattle.page_model.specs.Setups.{has_page};
 ghost use Rattle.page_model.specs.Stands.{StandsFor};
 ghost use Rattle.page_model.specs.Steps as step;
+ghost use Rattle.stripe_core.specs.Standing.{StandsAfter};
 
 use crate::stripe::Stripe;
 use page_base::Key;
@@ -51,7 +52,7 @@ impl<S: Store> Stripe<S> {
         ensures step { self.new ≡ step.open_page self.old result }
         ensures fixed { self.new.setup ≡ self.old.setup }
         ensures page { has_page self.old.setup result ≡ true }
-        ensures stands { (h : History Entry) (o : ℕ) → StandsFor h self.old → StandsFor ((o, entry.Opened result) ∷ h) self.new }
+        ensures stands { StandsAfter (entry.Opened result) self.old self.new }
     {
         service_knows();
         open_page_stands();
@@ -71,7 +72,7 @@ impl<S: Store> Stripe<S> {
         ensures step { self.new ≡ step.drop_raise self.old result }
         ensures fixed { self.new.setup ≡ self.old.setup }
         ensures page { has_page self.old.setup result ≡ true }
-        ensures stands { (h : History Entry) (o : ℕ) → StandsFor h self.old → StandsFor ((o, entry.Dropped result) ∷ h) self.new }
+        ensures stands { StandsAfter (entry.Dropped result) self.old self.new }
     {
         service_knows();
         drop_raise_stands();

@@ -1,5 +1,5 @@
 //! Reads: a page's lane goes out for it, and comes back with its bytes or with a fault.
-ghost use Rattle.std.specs.Prelude.{◌≡◌, ◌<◌, ◌+◌, ◌^◌, ◌∷◌, ℕ, true, false, length, slice_get, slice_set, Some, nat_le, ◌||◌};
+ghost use Rattle.std.specs.Prelude.{◌≡◌, ◌<◌, ◌+◌, ◌^◌, true, false, length, slice_get, Some, nat_le, ◌||◌};
 ghost use Rattle.histories.specs.Histories.{History};
 ghost use Rattle.page_base.specs.Lanes.{Rose};
 ghost use Rattle.page_model.specs.declared.entry.Entry.{Entry};
@@ -8,13 +8,14 @@ ghost use Rattle.page_model.specs.declared.seen.Next.TheVariants as serve;
 ghost use Rattle.page_model.specs.Core.{next};
 ghost use Rattle.page_model.specs.Faults.{is_write, last_why};
 ghost use Rattle.stripe_core.specs.declared.region.Region.{Region};
-ghost use Rattle.stripe_core.specs.InsideMade.{IsFailed};
+ghost use Rattle.stripe_core.specs.InsideSteps.{HasReadFault, FailsAt};
+ghost use Rattle.stripe_core.specs.Standing.{StandsAfter, OpensRead, HasOpenRead, EndsRead};
 ghost use Rattle.page_model.specs.Core as core;
 ghost use Rattle.page_model.specs.Readers.{IsHere, LaneHas};
 ghost use Rattle.page_model.specs.Setups.{has_page};
 ghost use Rattle.page_model.specs.Stands.{StandsFor};
 ghost use Rattle.page_model.specs.Steps as step;
-ghost use Rattle.page_model.specs.Trips.{IsOpenRead, SameLane, HoldsPage};
+ghost use Rattle.page_model.specs.Trips.{SameLane, HoldsPage};
 
 use crate::region::{Lane, Region, swap_lane};
 use crate::stripe::Stripe;
@@ -119,8 +120,8 @@ fn evicts(resident: u32, high_mark: u32, before: bool) -> bool
 /// Puts a lane whose read of a page failed home, with the number of the fault, and hands out what was in its place.
 fn fail_read<S>(regions: &mut Vec<Region<S>>, key: Key, lane: S, faults: u64) -> Lane<S>
     requires region { key.region < length regions.old.items }
-    requires page { (g : Region S) → slice_get regions.old.items key.region ≡ Some g → key.page < length g.read_faults.items }
-    ensures regions { (g : Region S) → slice_get regions.old.items key.region ≡ Some g → (x : Region S) × IsFailed g lane key.page faults x × (regions.new.items ≡ slice_set regions.old.items key.region x) }
+    requires page { HasReadFault regions.old.items key }
+    ensures regions { FailsAt regions.old.items key lane faults regions.new.items }
     ensures lane { (g : Region S) → slice_get regions.old.items key.region ≡ Some g → result ≡ g.lane }
 {
     let region = &mut regions[key.region as usize];
@@ -143,8 +144,8 @@ impl<S: Store> Stripe<S> {
         ensures here { IsHere self.old result.start.key.region result.start.taken }
         ensures lane { result.lane ≡ result.start.taken }
         ensures serves { LaneHas self.old.setup result.start.key result.lane }
-        ensures stands { (h : History Entry) (o : ℕ) → StandsFor h self.old → StandsFor ((o, entry.StartRead result.start.key) ∷ h) self.new }
-        ensures open_read { (h : History Entry) (o : ℕ) → StandsFor h self.old → IsOpenRead self.old.setup ((o, entry.StartRead result.start.key) ∷ h) o result.start }
+        ensures stands { StandsAfter (entry.StartRead result.start.key) self.old self.new }
+        ensures open_read { OpensRead self.old result.start }
     {
         service_knows();
         start_read_stands();
@@ -159,14 +160,14 @@ impl<S: Store> Stripe<S> {
     /// raised to be stored to, else protected and clean. It answers why the page was raised.
     pub fn filled(&mut self, trip: Trip<S>, bytes: &[u8]) -> Why
         requires few { self.old.events < 2 ^ 62 }
-        requires open_read { (h : History Entry) × (o : ℕ) × StandsFor h self.old × IsOpenRead self.old.setup h o trip.start }
+        requires open_read { HasOpenRead self.old trip.start }
         requires same { SameLane trip.start.taken trip.lane }
         requires size { length bytes.now ≡ self.old.setup.page_size }
         requires holds { HoldsPage trip.start.taken trip.start.key.page bytes.now }
         ensures why { (h : History Entry) → StandsFor h self.old → result ≡ last_why h trip.start.key }
         ensures step { self.new ≡ step.filled self.old trip.start.key bytes.now trip.lane }
         ensures fixed { self.new.setup ≡ self.old.setup }
-        ensures stands { (h : History Entry) (o : ℕ) → StandsFor h self.old → IsOpenRead self.old.setup h o trip.start → StandsFor ((o, entry.Filled trip.start.key) ∷ h) self.new }
+        ensures stands { EndsRead trip.start (entry.Filled trip.start.key) self.old self.new }
     {
         service_knows();
         whys_agree();
@@ -183,12 +184,12 @@ impl<S: Store> Stripe<S> {
     /// Ends a read that failed: the page is missing as before, its fault is served, and the lane's count is its read fault.
     pub fn read_failed(&mut self, trip: Trip<S>)
         requires few { self.old.events < 2 ^ 62 }
-        requires open_read { (h : History Entry) × (o : ℕ) × StandsFor h self.old × IsOpenRead self.old.setup h o trip.start }
+        requires open_read { HasOpenRead self.old trip.start }
         requires same { SameLane trip.start.taken trip.lane }
         requires rose { Rose trip.start.taken.count trip.lane.count }
         ensures step { self.new ≡ step.read_failed self.old trip.start.key trip.lane trip.lane.count }
         ensures fixed { self.new.setup ≡ self.old.setup }
-        ensures stands { (h : History Entry) (o : ℕ) → StandsFor h self.old → IsOpenRead self.old.setup h o trip.start → StandsFor ((o, entry.ReadFailed trip.start.key trip.lane.count) ∷ h) self.new }
+        ensures stands { EndsRead trip.start (entry.ReadFailed trip.start.key trip.lane.count) self.old self.new }
     {
         service_knows();
         read_failed_stands();

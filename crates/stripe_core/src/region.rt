@@ -1,9 +1,10 @@
 //! What a stripe keeps of a region: where its lane is, whether it is closing, and which reads of its pages failed.
 //!
 //! A lane is out for one page at the most, since its value is in one place only.
-ghost use Rattle.std.specs.Prelude.{◌≡◌, ◌<◌, ℕ, length, slice_get, slice_set, Some, true};
+ghost use Rattle.std.specs.Prelude.{◌≡◌, ◌<◌, ℕ, length, slice_get, Some, true};
 ghost use Rattle.page_model.specs.Core as core;
 ghost use Rattle.stripe_core.specs.declared.region.Region.{Region};
+ghost use Rattle.stripe_core.specs.InsideSteps.{Swaps};
 
 use page_base::{Key, Why};
 use std::mem;
@@ -125,7 +126,7 @@ impl<S: Store> Region<S> {
 /// Puts `lane` into the place of a region's lane, which it hands out.
 pub(crate) fn swap_lane<S>(regions: &mut Vec<Region<S>>, region: u16, lane: Lane<S>) -> Lane<S>
     requires region { region < length regions.old.items }
-    ensures regions { (g : Region S) → slice_get regions.old.items region ≡ Some g → regions.new.items ≡ slice_set regions.old.items region (record g { lane = lane }) }
+    ensures regions { Swaps regions.old.items region lane regions.new.items }
     ensures lane { (g : Region S) → slice_get regions.old.items region ≡ Some g → result ≡ g.lane }
 {
     mem::replace(&mut regions[region as usize].lane, lane)

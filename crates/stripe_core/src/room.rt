@@ -1,12 +1,10 @@
 //! The room of a stripe: all memory that it ever takes.
-ghost use Rattle.std.specs.Prelude.{◌≡◌, ◌<◌, ◌≤◌, [], ℕ, length, map, replicate, vec_capacity, IfOk, OnOk, true};
+ghost use Rattle.std.specs.Prelude.{◌≡◌, ◌<◌, ◌≤◌, [], length, map, vec_capacity, IfOk};
 ghost use Rattle.page_base.specs.declared.keys.RegionShape.{RegionShape};
-ghost use Rattle.page_buffer.specs.Frames.{Free};
 ghost use Rattle.page_model.specs.Setups.{quota};
 ghost use Rattle.soft_mmu.specs.Entries.{no_pages};
-ghost use Rattle.stripe_core.specs.Configs.{setup_of, CanMake};
-ghost use Rattle.stripe_core.specs.InsideMade.{regions_made, no_faults};
-ghost use Rattle.page_base.specs.Lanes.{LaneSeen};
+ghost use Rattle.stripe_core.specs.Configs.{CanMake};
+ghost use Rattle.stripe_core.specs.InsideMade.{buffer_made, regions_made, no_faults};
 
 use crate::config::StripeConfig;
 use crate::region::{Lane, Region};
@@ -16,8 +14,7 @@ use page_buffer::PageBuffer;
 use soft_mmu::PageTable;
 use std::alloc::Global;
 
-/// The parts of a stripe that hold no lane.
-#[derive(Drop)]
+/// The parts of a stripe that hold no lane. The buffer among them must be closed, so it is made last: nothing fails behind it.
 pub(crate) struct Parts {
     pub(crate) table: PageTable,
     pub(crate) buffer: PageBuffer,
@@ -29,16 +26,16 @@ impl Parts {
     pub(crate) fn new(alloc: Global, config: &StripeConfig) -> Result<Parts, OutOfMemory>
         requires can { (lanes : _) × CanMake config.now lanes }
         ensures table { IfOk result (λ p. p.table ≡ no_pages config.now.shapes.items) }
-        ensures buffer { IfOk result (λ p. p.buffer ≡ record { page_size = config.now.layout.page_size; frames = replicate (quota (setup_of config.now [])) Free; residents = [] }) }
+        ensures buffer { IfOk result (λ p. p.buffer ≡ buffer_made config.now) }
         ensures raises { IfOk result (λ p. p.queue.raises ≡ []) }
         ensures capacity { IfOk result (λ p. p.queue.capacity ≡ config.now.faults) }
         ensures faults { IfOk result (λ p. map (λ v. v.items) p.faults.items ≡ map no_faults config.now.shapes.items) }
     {
         let quota = config.layout.quota(config.number);
         let table = PageTable::new(alloc, &config.shapes)?;
-        let buffer = PageBuffer::new(alloc, quota, config.layout.page_size())?;
         let queue = FaultQueue::new(alloc, config.faults)?;
         let faults = faults_of(alloc, &config.shapes)?;
+        let buffer = PageBuffer::new(alloc, quota, config.layout.page_size())?;
         Ok(Parts {
             table,
             buffer,

@@ -10,7 +10,7 @@
 //! What must stay true when this file is changed: table, frames and reads name one another (`specs/InsideTied.antt`). The paging
 //! itself, which entries may follow and what the bits mean, is `page_model`'s; here stands only what a change of
 //! representation would touch.
-ghost use Rattle.std.specs.Prelude.{◌≡◌, ◌<◌, ℕ, [], map, true, slice_get, Some, IfOk, IfErr};
+ghost use Rattle.std.specs.Prelude.{◌≡◌, ◌<◌, ℕ, [], map, true, Some, IfOk, IfErr};
 ghost use Rattle.page_model.specs.Core.{Home, is_home};
 ghost use Rattle.page_model.specs.Setups.{regions};
 
@@ -62,9 +62,8 @@ impl<S: Store> Model for Stripe<S> {
 
 impl<S: Store> Stripe<S> {
     ghost use Rattle.stripe_core.specs.Configs.{setup_of, CanMake};
-    ghost use Rattle.histories.specs.Histories.{History};
-    ghost use Rattle.page_model.specs.declared.entry.Entry.{Entry};
-    ghost use Rattle.page_model.specs.Stands.{StandsFor, HomeLane};
+    ghost use Rattle.stripe_core.specs.Standing.{AreHomeLanes};
+    ghost use Rattle.page_model.specs.Stands.{StandsFor};
     ghost use Rattle.page_model.specs.Steps as step;
 
     /// A stripe with no page resident and every lane home. `lanes` has one lane for each region, in order of number. It takes
@@ -80,10 +79,11 @@ impl<S: Store> Stripe<S> {
         ensures back { IfErr result (λ e. e ≡ NewStripe.OutOfMemory lanes) }
     {
         fresh_stands();
-        let Ok(parts) = Parts::new(alloc, config) else {
+        let Ok(room) = Vec::with_capacity(alloc, lanes.len()) else {
             return Err(NewStripe::OutOfMemory { lanes });
         };
-        let Ok(room) = Vec::with_capacity(alloc, lanes.len()) else {
+        let Ok(parts) = Parts::new(alloc, config) else {
+            room.destroy_empty();
             return Err(NewStripe::OutOfMemory { lanes });
         };
         let Parts {
@@ -114,12 +114,12 @@ impl<S: Store> Stripe<S> {
     pub fn into_lanes(self) -> List<S>
         requires home { (r : ℕ) → r < regions self.setup → is_home self r ≡ true }
         ensures lanes { map (λ s. Home (S.seen s)) result.items ≡ map (λ g. g.place) self.regions }
-        ensures stands { (h : History Entry) → StandsFor h self → (r : ℕ) (lane : S) → slice_get result.items r ≡ Some lane → HomeLane self.setup h r (S.seen lane) }
+        ensures stands { AreHomeLanes S.seen self result.items }
     {
         service_knows();
         let Stripe {
             table: _,
-            buffer: _,
+            buffer,
             queue: _,
             mut regions,
             mut home,
@@ -134,6 +134,7 @@ impl<S: Store> Stripe<S> {
             home.push_reserved(region.into_lane());
         }
         regions.destroy_empty();
+        buffer.close();
         home.reverse();
         List::from_vec(home)
     }

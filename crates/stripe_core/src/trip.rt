@@ -26,6 +26,7 @@ impl<S: Store> Model for Trip<S> {
 
 impl<S: Store> Trip<S> {
     ghost use Rattle.stripe_core.specs.contracts.trip.Trip.{the_row};
+    ghost use Rattle.stripe_core.specs.Trips.{with_lane};
 
     /// The page that is read or written.
     pub fn key(&self) -> Key
@@ -50,7 +51,7 @@ impl<S: Store> Trip<S> {
 
     /// The lane, to read or write the page by.
     pub fn lane(&mut self) -> &mut S
-        ensures* lends { sem 𝓛 (Lends (the_row S.row S.Store) S.row self.entry result (λ w. record self.old { lane = S.seen w })) }
+        ensures* lends { sem 𝓛 (Lends (the_row S.row S.Store) S.row self.entry result (with_lane S.seen self.old)) }
         ensures value { S.seen result.now ≡ self.old.lane }
     {
         &mut self.lane

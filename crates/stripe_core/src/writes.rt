@@ -2,22 +2,22 @@
 //!
 //! The order is what keeps stores from being lost: the page is protected before its bytes are copied, so a store that comes
 //! while the copy is on its way opens the page first, and the end of the write then leaves it dirty.
-ghost use Rattle.std.specs.Prelude.{◌≡◌, ◌<◌, ◌+◌, ◌^◌, ◌∷◌, ◌&&◌, ℕ, true, not, length};
+ghost use Rattle.std.specs.Prelude.{◌≡◌, ◌<◌, ◌+◌, ◌^◌, true, length};
 ghost use Rattle.histories.specs.Histories.{History};
 ghost use Rattle.page_base.specs.Lanes.{Rose};
 ghost use Rattle.page_model.specs.declared.entry.Entry.{Entry};
 ghost use Rattle.page_model.specs.declared.entry.Entry.TheVariants as entry;
 ghost use Rattle.page_model.specs.Core as core;
-ghost use Rattle.page_model.specs.Core.{Resident, Home, Writing};
+ghost use Rattle.page_model.specs.Core.{Home, Writing};
 ghost use Rattle.page_model.specs.Events.{CanStartWrite};
-ghost use Rattle.page_model.specs.InFlight.{WritesTaken};
 ghost use Rattle.page_model.specs.Readers.{IsHere, LaneHas};
 ghost use Rattle.page_model.specs.Setups.{has_page};
 ghost use Rattle.page_model.specs.Stands.{StandsFor};
 ghost use Rattle.page_model.specs.Steps as step;
-ghost use Rattle.page_model.specs.Steps.{on_page, on_region, placed};
-ghost use Rattle.page_model.specs.Trips.{IsOpenWrite, WithPage, OtherPages};
+ghost use Rattle.page_model.specs.Trips.{WithPage, OtherPages};
 ghost use Rattle.stripe_core.specs.Copies.{IsCopyOf};
+ghost use Rattle.stripe_core.specs.InsideSteps.{page_protected, page_cleaned, lane_placed, one_more, write_counted, fault_counted};
+ghost use Rattle.stripe_core.specs.Standing.{StandsAfter, OpensWrite, TakesBytes, HasTaken, HasOpenWrite, EndsWrite, EndsWritten};
 
 use crate::region::{Lane, swap_lane};
 use crate::stripe::Stripe;
@@ -58,7 +58,7 @@ impl<S: Store> Stripe<S> {
         requires page { has_page self.old.setup key ≡ true }
         requires present { core.is_present self.old key ≡ true }
         requires size { length scratch.old ≡ self.old.setup.page_size }
-        ensures step { self.new ≡ record self.old { pages = on_page key (λ (r : Resident). record r { protected = true }) self.old.pages } }
+        ensures step { self.new ≡ page_protected self.old key }
         ensures copy { IsCopyOf self.old key scratch.new }
     {
         let Found::Hit(frame) = self.table.translate(key, Wants::Read) else {
@@ -72,7 +72,7 @@ impl<S: Store> Stripe<S> {
     fn send_lane(&mut self, key: Key) -> Trip<S>
         requires few { self.old.events < 2 ^ 62 }
         requires home { core.is_home self.old key.region ≡ true }
-        ensures step { self.new ≡ record self.old { regions = on_region key.region (placed (Writing key self.old.events)) self.old.regions; events = self.old.events + 1 } }
+        ensures step { self.new ≡ one_more (lane_placed self.old key.region (Writing key self.old.events)) }
         ensures key { result.start.key ≡ key }
         ensures at { result.start.at ≡ self.old.events }
         ensures here { IsHere self.old key.region result.start.taken }
@@ -93,7 +93,7 @@ impl<S: Store> Stripe<S> {
     /// Takes the lane of a page's region back after a write.
     fn take_home(&mut self, key: Key, lane: S)
         requires writing { core.is_writing self.old key ≡ true }
-        ensures step { self.new ≡ record self.old { regions = on_region key.region (placed (Home (S.seen lane))) self.old.regions } }
+        ensures step { self.new ≡ lane_placed self.old key.region (Home (S.seen lane)) }
     {
         swap_lane(&mut self.regions, key.region, Lane::Home(lane)).end_write(key);
     }
@@ -101,7 +101,7 @@ impl<S: Store> Stripe<S> {
     /// Makes a page clean where it is still protected.
     fn clean(&mut self, key: Key)
         requires page { has_page self.old.setup key ≡ true }
-        ensures step { self.new ≡ record self.old { pages = on_page key (λ (r : Resident). record r { dirty = r.dirty && not r.protected }) self.old.pages } }
+        ensures step { self.new ≡ page_cleaned self.old key }
     {
         if self.table.bits(key).protected {
             self.table.mark_clean(key);
@@ -110,7 +110,7 @@ impl<S: Store> Stripe<S> {
 
     fn count_write(&mut self)
         requires few { self.old.events < 2 ^ 62 }
-        ensures step { self.new ≡ record self.old { counts = record self.old.counts { writes = self.old.counts.writes + 1 }; events = self.old.events + 1 } }
+        ensures step { self.new ≡ write_counted self.old }
     {
         self.counts.writes += 1;
         self.events += 1;
@@ -118,7 +118,7 @@ impl<S: Store> Stripe<S> {
 
     fn count_fault(&mut self)
         requires few { self.old.events < 2 ^ 62 }
-        ensures step { self.new ≡ record self.old { counts = record self.old.counts { faults = self.old.counts.faults + 1 }; events = self.old.events + 1 } }
+        ensures step { self.new ≡ fault_counted self.old }
     {
         self.counts.faults += 1;
         self.events += 1;
@@ -142,9 +142,9 @@ impl<S: Store> Stripe<S> {
         ensures lane { result.lane ≡ result.start.taken }
         ensures serves { (h : History Entry) → StandsFor h self.old → LaneHas self.old.setup key result.lane }
         ensures copy { IsCopyOf self.old key scratch.new }
-        ensures stands { (h : History Entry) (o : ℕ) → StandsFor h self.old → StandsFor ((o, entry.StartWrite key why) ∷ h) self.new }
-        ensures open_write { (h : History Entry) (o : ℕ) → StandsFor h self.old → IsOpenWrite self.old.setup ((o, entry.StartWrite key why) ∷ h) o result.start }
-        ensures taken { (h : History Entry) (o : ℕ) → StandsFor h self.old → WritesTaken self.old.setup ((o, entry.StartWrite key why) ∷ h) key scratch.new }
+        ensures stands { StandsAfter (entry.StartWrite key why) self.old self.new }
+        ensures open_write { OpensWrite self.old key why result.start }
+        ensures taken { TakesBytes self.old key why scratch.new }
     {
         service_knows();
         start_write_stands();
@@ -157,11 +157,11 @@ impl<S: Store> Stripe<S> {
     /// Ends a write well: the page is clean, where it wasn't opened since the write began.
     pub fn written(&mut self, trip: Trip<S>, bytes: &[u8])
         requires few { self.old.events < 2 ^ 62 }
-        requires open_write { (h : History Entry) × (o : ℕ) × StandsFor h self.old × IsOpenWrite self.old.setup h o trip.start × WritesTaken self.old.setup h trip.start.key bytes.now }
+        requires open_write { HasTaken self.old trip.start bytes.now }
         requires wrote { WithPage trip.start.key.page bytes.now trip.start.taken trip.lane }
         ensures step { self.new ≡ step.written self.old trip.start.key trip.lane }
         ensures fixed { self.new.setup ≡ self.old.setup }
-        ensures stands { (h : History Entry) (o : ℕ) → StandsFor h self.old → IsOpenWrite self.old.setup h o trip.start → WritesTaken self.old.setup h trip.start.key bytes.now → StandsFor ((o, entry.Written trip.start.key trip.start.at bytes.now) ∷ h) self.new }
+        ensures stands { EndsWritten trip.start bytes.now self.old self.new }
     {
         service_knows();
         written_stands();
@@ -179,12 +179,12 @@ impl<S: Store> Stripe<S> {
     /// Ends a write that failed: the page is dirty and resident as before.
     pub fn write_failed(&mut self, trip: Trip<S>)
         requires few { self.old.events < 2 ^ 62 }
-        requires open_write { (h : History Entry) × (o : ℕ) × StandsFor h self.old × IsOpenWrite self.old.setup h o trip.start }
+        requires open_write { HasOpenWrite self.old trip.start }
         requires others { OtherPages trip.start.key.page trip.start.taken trip.lane }
         requires rose { Rose trip.start.taken.count trip.lane.count }
         ensures step { self.new ≡ step.write_failed self.old trip.start.key trip.lane }
         ensures fixed { self.new.setup ≡ self.old.setup }
-        ensures stands { (h : History Entry) (o : ℕ) → StandsFor h self.old → IsOpenWrite self.old.setup h o trip.start → StandsFor ((o, entry.WriteFailed trip.start.key trip.lane.count) ∷ h) self.new }
+        ensures stands { EndsWrite trip.start (entry.WriteFailed trip.start.key trip.lane.count) self.old self.new }
     {
         service_knows();
         write_failed_stands();

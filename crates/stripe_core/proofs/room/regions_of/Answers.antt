@@ -1,8 +1,8 @@
-use Rattle.std.proofs.Common.{◌≡◌, ◌∙◌, ◌+◌, ◌<◌, ◌≤◌, ◌++◌, ◌∷◌, [], ap, arith, length, length-append}
-use Rattle.std.specs.Prelude.{vec_len, vec_capacity, option_to_list}
+use Rattle.std.proofs.Common.{◌≡◌, ◌∙◌, ◌++◌, ◌∷◌, [], ap, arith, length, length-append}
+use Rattle.std.specs.Prelude.{vec_len, option_to_list}
 use Rattle.std.proofs.lemmas.Grind.{common_steps}
 use Rattle.std.proofs.Common.{rules}
-use Rattle.stripe_core.proofs.Making.{MadeSoFar, made_none, made_more, made_all}
+use Rattle.stripe_core.proofs.Making.{made_none, made_more, made_all}
 use Rattle.stripe_core.proofs.room.regions_of.Goals as goal
 
 pub loop-lane-init : goal.loop-lane-init

@@ -1,4 +1,4 @@
-use Rattle.std.proofs.Common.{◌+◌, ◌≤◌, length}
+use Rattle.std.proofs.Common.{◌+◌, ◌≤◌}
 use Rattle.std.specs.Prelude.{vec_len, vec_capacity}
 use Rattle.stripe_core.proofs.Making.{MadeSoFar}
 use Rattle.stripe_core.proofs.room.regions_of.Given as goal

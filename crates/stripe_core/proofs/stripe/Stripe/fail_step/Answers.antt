@@ -1,19 +1,17 @@
-use Rattle.std.proofs.Common.{◌≡◌, ◌∙◌, ◌<◌, ◌≤◌, ◌+◌, ◌∷◌, [], ap, arith, refl, sym, subst, true, false, ℕ, None, Some, length, map, slice_get, slice_set, length-set}
+use Rattle.std.proofs.Common.{◌≡◌, ◌∙◌, ◌≤◌, ◌+◌, ap, arith, refl, sym, None, length, map, slice_set, length-set}
 use Rattle.std.specs.Prelude.{vec_capacity}
 use Rattle.std.proofs.lemmas.Option.{slice_get_within}
-use Rattle.page_buffer.specs.Frames.{Free, resident_key}
+use Rattle.page_buffer.specs.Frames.{Free}
 use Rattle.page_buffer.specs.Buffers.{frame_of, with_frame}
 use Rattle.page_model.specs.Core.{Core, RegionSeen, Home, is_reading}
 use Rattle.page_model.specs.Core as core
 use Rattle.page_model.specs.Setups.{has_page}
 use Rattle.page_model.specs.Steps.{on_region, read_missed, read_failed}
 use Rattle.stripe_core.proofs.Cores.{core_fail}
-use Rattle.stripe_core.specs.declared.region.Lane.TheVariants as lane
-use Rattle.stripe_core.specs.declared.region.Region.{Region}
 use Rattle.stripe_core.specs.Configs.{setup_of}
 use Rattle.stripe_core.specs.Parts.{region_seen, place_of}
 use Rattle.stripe_core.specs.InsideParts.{reads_of, read_of}
-use Rattle.stripe_core.specs.InsideTied.{Tied, IsSized, CountsWithin, read_at}
+use Rattle.stripe_core.specs.InsideTied.{Tied, CountsWithin}
 use Rattle.stripe_core.proofs.Ended.{ended, failed_seen, page_within}
 use Rattle.stripe_core.proofs.Lanes.{passing, changed_seen, reads_changed}
 use Rattle.stripe_core.proofs.ReadTies.{is_kept, fail_tied, pages_kept}

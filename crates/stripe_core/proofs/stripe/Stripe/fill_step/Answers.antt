@@ -1,16 +1,14 @@
-use Rattle.std.proofs.Common.{nat_le, ◌||◌, length-append, ◌≡◌, ◌∙◌, ◌<◌, ◌≤◌, ◌+◌, ◌^◌, ◌∷◌, [], ◌++◌, ap, arith, refl, sym, subst, true, false, not, ℕ, None, Some, length, map, slice_get, slice_set, length-set}
+use Rattle.std.proofs.Common.{nat_le, ◌||◌, length-append, ◌≡◌, ◌∙◌, ◌≤◌, ◌+◌, ◌∷◌, [], ◌++◌, ap, arith, refl, sym, not, length, map, slice_set, length-set}
 use Rattle.std.specs.Prelude.{vec_capacity}
 use Rattle.std.proofs.lemmas.List.{length-map}
-use Rattle.std.proofs.lemmas.Option.{slice_get_within}
 use Rattle.page_base.specs.Pages.{on_mark}
 use Rattle.soft_mmu.specs.declared.entry.PageEntry.TheVariants.{Present}
 use Rattle.soft_mmu.specs.Entries.{entry_of, with_entry}
 use Rattle.page_buffer.specs.Frames as frame
-use Rattle.page_buffer.specs.Buffers.{frame_of, with_frame}
+use Rattle.page_buffer.specs.Buffers.{frame_of}
 use Rattle.page_model.specs.Core.{Core, RegionSeen, Home, place_passes, is_reading}
 use Rattle.page_model.specs.Core as core
-use Rattle.page_model.specs.Faults.{is_write}
-use Rattle.page_model.specs.Setups.{quota, has_page}
+use Rattle.page_model.specs.Setups.{has_page}
 use Rattle.page_model.specs.Steps.{on_region, placed}
 use Rattle.page_model.specs.Steps as step
 use Rattle.page_model.specs.Core.{why_out, frames_held}
@@ -19,13 +17,12 @@ use Rattle.stripe_core.specs.Configs.{setup_of}
 use Rattle.stripe_core.specs.Parts.{core_of, pages_seen}
 use Rattle.stripe_core.proofs.Cores.{core_fill, page_made, why_of_read}
 use Rattle.stripe_core.specs.declared.region.Lane.TheVariants as lane
-use Rattle.stripe_core.specs.declared.region.Region.{Region}
-use Rattle.stripe_core.specs.Parts.{region_seen, place_of, page_seen}
-use Rattle.stripe_core.specs.InsideParts.{reads_of, read_of}
-use Rattle.stripe_core.specs.InsideTied.{Tied, IsSized, CountsWithin, read_at}
-use Rattle.stripe_core.proofs.Lanes.{Passing, passing, changed_seen, reads_changed, read_is}
+use Rattle.stripe_core.specs.Parts.{place_of, page_seen}
+use Rattle.stripe_core.specs.InsideParts.{reads_of}
+use Rattle.stripe_core.specs.InsideTied.{Tied, CountsWithin}
+use Rattle.stripe_core.proofs.Lanes.{passing, changed_seen, reads_changed}
 use Rattle.stripe_core.proofs.Looks.{at_now, absent_entry}
-use Rattle.stripe_core.proofs.ReadTies.{KeptFor, is_kept, fill_tied, pages_filled, filled_with, filled_is}
+use Rattle.stripe_core.proofs.ReadTies.{is_kept, fill_tied, pages_filled, filled_with, filled_is}
 use Rattle.stripe_core.proofs.Ended.{ended}
 use Rattle.stripe_core.proofs.Sizes.{resized, retabled, rezoned, framed}
 use Rattle.stripe_core.proofs.stripe.Stripe.fill_step.Goals as goal

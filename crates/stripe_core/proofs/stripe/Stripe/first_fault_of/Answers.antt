@@ -1,8 +1,6 @@
-use Rattle.std.proofs.Common.{ap, false, true, ◌≡◌, ◌==◌, ◌∙◌}
+use Rattle.std.proofs.Common.{ap, ◌==◌, ◌∙◌}
 use Rattle.std.specs.List.{find}
-use Rattle.page_base.specs.declared.keys.Key.{Key}
 use Rattle.page_base.specs.declared.keys.Raise.{Raise}
-use Rattle.page_base.specs.declared.keys.Why.{Why}
 use Rattle.page_model.specs.Core.{Core}
 use Rattle.stripe_core.proofs.stripe.Stripe.first_fault_of.Goals as goal
 

@@ -1,5 +1,4 @@
-use Rattle.std.proofs.Common.{ap, false, true, ◌≡◌}
-use Rattle.page_base.specs.declared.keys.Key.{Key}
+use Rattle.std.proofs.Common.{ap}
 use Rattle.soft_mmu.specs.Entries.{entry_of}
 use Rattle.page_model.specs.Core.{Core, can_leave}
 use Rattle.stripe_core.specs.InsideFrameStates.{leaves}

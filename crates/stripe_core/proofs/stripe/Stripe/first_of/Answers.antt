@@ -1,10 +1,9 @@
-use Rattle.std.proofs.Common.{ap, false, true, sym, ◌==◌, ◌∙◌, ◌≡◌}
+use Rattle.std.proofs.Common.{ap, sym, ◌==◌, ◌∙◌}
 use Rattle.std.specs.List.{find}
 use Rattle.page_base.specs.declared.keys.Key.{Key}
 use Rattle.soft_mmu.specs.Entries.{entry_of}
 use Rattle.page_model.specs.Core.{Core, Resident}
 use Rattle.stripe_core.specs.InsideFrameStates.{keys_of}
-use Rattle.stripe_core.specs.Parts.{page_seen}
 use Rattle.stripe_core.proofs.Finds.{keys_seen, found_present, picks_seen}
 use Rattle.stripe_core.proofs.Looks.{page_key}
 use Rattle.stripe_core.proofs.stripe.Stripe.first_of.Goals as goal

@@ -1,6 +1,5 @@
-use Rattle.std.proofs.Common.{Bool, ◌≡◌, ◌∙◌, ap, sym, true, subst, map}
+use Rattle.std.proofs.Common.{◌∙◌, ap, sym, map}
 use Rattle.std.specs.List.{find}
-use Rattle.std.specs.Option.{option_map}
 use Rattle.page_base.specs.declared.keys.Raise.{Raise}
 use Rattle.page_model.specs.Core.{Core}
 use Rattle.page_model.specs.Core as core

@@ -1,5 +1,5 @@
-use Rattle.std.proofs.Common.{Some, ap, is_some, length-set, refl, sym, true, ◌∙◌, ◌≡◌}
-use Rattle.soft_mmu.specs.declared.entry.PageEntry.TheVariants.{Absent, Present}
+use Rattle.std.proofs.Common.{ap, is_some, length-set, refl, sym, ◌∙◌}
+use Rattle.soft_mmu.specs.declared.entry.PageEntry.TheVariants.{Absent}
 use Rattle.soft_mmu.specs.declared.entry.Wants.TheVariants as wants
 use Rattle.soft_mmu.specs.Entries.{entry_of}
 use Rattle.page_buffer.specs.Buffers.{released}

@@ -1,4 +1,4 @@
-use Rattle.std.proofs.Common.{ap, ◌∙◌, sym}
+use Rattle.std.proofs.Common.{ap, ◌∙◌}
 use Rattle.page_model.specs.Core.{Core, hint_answer}
 use Rattle.stripe_core.proofs.Looks.{hint_fixed}
 use Rattle.stripe_core.proofs.stripe.Stripe.hint.Goals as goal

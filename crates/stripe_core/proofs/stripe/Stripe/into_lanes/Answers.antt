@@ -1,11 +1,11 @@
-use Rattle.std.proofs.Common.{◌≡◌, ◌∙◌, ◌+◌, ◌<◌, ◌≤◌, ◌++◌, ◌∷◌, [], Some, true, ap, arith, rules, sym, length, map, slice_get}
-use Rattle.std.specs.Prelude.{vec_len, vec_capacity}
+use Rattle.std.proofs.Common.{◌≡◌, ◌∙◌, ◌<◌, ◌++◌, Some, ap, arith, rules, sym, length, map, slice_get}
+use Rattle.std.specs.Prelude.{vec_len}
 use Rattle.std.proofs.lemmas.Grind.{common_steps}
 use Rattle.std.proofs.lemmas.Option.{slice_get_within}
-use Rattle.page_model.specs.Core.{Core, RegionSeen, Home, is_home_place, place_passes}
+use Rattle.page_model.specs.Core.{Core, RegionSeen, is_home_place, place_passes}
 use Rattle.page_model.specs.Setups.{regions}
 use Rattle.stripe_core.proofs.Lanes.{seen_at}
-use Rattle.stripe_core.proofs.Making.{TakenSoFar, taken_none, taken_more, taken_all, last_there, places_seen, handed_back}
+use Rattle.stripe_core.proofs.Making.{taken_none, taken_more, taken_all, last_there, places_seen, handed_back}
 use Rattle.stripe_core.proofs.stripe.Stripe.into_lanes.Goals as goal
 
 pub loop-region-init : goal.loop-region-init

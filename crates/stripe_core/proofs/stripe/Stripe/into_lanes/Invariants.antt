@@ -1,4 +1,4 @@
-use Rattle.std.proofs.Common.{◌+◌, ◌≤◌, ◌≡◌, ◌++◌, List, map, reverse, length}
+use Rattle.std.proofs.Common.{◌+◌, ◌≤◌}
 use Rattle.std.specs.Prelude.{vec_len, vec_capacity}
 use Rattle.stripe_core.proofs.Making.{TakenSoFar}
 use Rattle.stripe_core.proofs.stripe.Stripe.into_lanes.Given as goal

@@ -1,4 +1,4 @@
-use Rattle.std.proofs.Common.{◌≡◌, ◌∙◌, ap}
+use Rattle.std.proofs.Common.{◌∙◌, ap}
 use Rattle.soft_mmu.specs.declared.entry.Bits.{Bits}
 use Rattle.soft_mmu.specs.Entries.{entry_of}
 use Rattle.page_model.specs.Core.{Core}

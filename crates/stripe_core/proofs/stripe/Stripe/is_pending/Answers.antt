@@ -1,4 +1,4 @@
-use Rattle.std.proofs.Common.{◌≡◌, ◌∙◌, ap, sym, Bool, subst}
+use Rattle.std.proofs.Common.{◌≡◌, ◌∙◌, ap, subst}
 use Rattle.std.specs.Option.{is_some}
 use Rattle.page_model.specs.Core.{Core, is_pending}
 use Rattle.stripe_core.proofs.Waiting.{pending_is}

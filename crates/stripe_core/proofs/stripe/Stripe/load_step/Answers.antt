@@ -1,8 +1,6 @@
-use Rattle.std.proofs.Common.{◌≡◌, false, sym, ap, ◌∙◌, subst, refl, ℕ, List, slice_range, length, ◌+◌}
+use Rattle.std.proofs.Common.{◌≡◌, false, subst}
 use Rattle.soft_mmu.specs.declared.entry.Wants.TheVariants as wants
 use Rattle.soft_mmu.specs.Entries.{entry_of}
-use Rattle.page_buffer.specs.Buffers.{frame_of}
-use Rattle.page_buffer.specs.Frames.{bytes_of}
 use Rattle.page_model.specs.Core.{Core, page_at, is_closing}
 use Rattle.stripe_core.proofs.Looks.{at_entry, page_is, hit_held, missing_absent, holds_page, is_held, load_hit, load_miss, load_gives}
 use Rattle.stripe_core.proofs.stripe.Stripe.load_step.Goals as goal

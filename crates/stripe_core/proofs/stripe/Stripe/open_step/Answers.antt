@@ -1,5 +1,5 @@
-use Rattle.std.proofs.Common.{true, false, ap, arith, refl, sym, ◌≡◌, ◌+◌, ◌∙◌}
-use Rattle.soft_mmu.specs.Entries.{entry_of, with_entry, opened, HasPage}
+use Rattle.std.proofs.Common.{true, false, ap, arith, refl, sym, ◌+◌, ◌∙◌}
+use Rattle.soft_mmu.specs.Entries.{entry_of, opened}
 use Rattle.page_model.specs.Core.{Core, Resident, is_pending, protects}
 use Rattle.page_model.specs.Setups.{has_page}
 use Rattle.stripe_core.specs.InsideTied.{CountsWithin}

@@ -1,10 +1,9 @@
-use Rattle.std.proofs.Common.{◌≡◌, ◌∙◌, ◌<◌, ap, arith, refl, sym, subst, map, slice_get, length, Some}
+use Rattle.std.proofs.Common.{◌∙◌, ◌<◌, ap, arith, refl, sym, map, length}
 use Rattle.std.proofs.lemmas.Option.{slice_get_read}
 use Rattle.std.proofs.lemmas.List.{get_or_default}
 use Rattle.page_model.specs.Core.{Core, read_fault, fault_at}
 use Rattle.page_model.specs.Setups.{has_page}
 use Rattle.stripe_core.specs.Configs.{setup_of}
-use Rattle.stripe_core.specs.Parts.{region_seen}
 use Rattle.stripe_core.proofs.Ended.{page_within, region_within}
 use Rattle.stripe_core.proofs.Lanes.{seen_at}
 use Rattle.stripe_core.proofs.stripe.Stripe.read_fault.Goals as goal

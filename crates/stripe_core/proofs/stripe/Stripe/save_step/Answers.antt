@@ -1,4 +1,4 @@
-use Rattle.std.proofs.Common.{arith, ◌≤◌, ◌≡◌, false, sym, ap, ◌∙◌, subst, refl, ℕ, List, slice_range, length, ◌+◌}
+use Rattle.std.proofs.Common.{arith, ◌≤◌, ◌≡◌, false, ap, subst, refl, length, ◌+◌}
 use Rattle.soft_mmu.specs.declared.entry.Wants.TheVariants as wants
 use Rattle.soft_mmu.specs.Entries.{entry_of}
 use Rattle.page_buffer.specs.Buffers.{frame_of}

@@ -1,9 +1,9 @@
-use Rattle.std.proofs.Common.{◌≡◌, ◌∙◌, ◌<◌, ◌≤◌, ◌+◌, ap, arith, refl, sym, subst, true, false, ℕ, None, Some, length, map, slice_get, slice_set, length-set}
+use Rattle.std.proofs.Common.{◌≡◌, ◌∙◌, ◌<◌, ◌≤◌, ◌+◌, ap, arith, refl, sym, subst, None, length, map, slice_get, slice_set, length-set}
 use Rattle.std.specs.Prelude.{vec_capacity, find}
 use Rattle.std.specs.Option.{is_some}
 use Rattle.soft_mmu.specs.Entries.{entry_of}
 use Rattle.page_buffer.specs.Frames.{Reserved, resident_key}
-use Rattle.page_buffer.specs.Buffers.{frame_of, with_frame}
+use Rattle.page_buffer.specs.Buffers.{with_frame}
 use Rattle.fault_queue.specs.Queues.{pending_why, without, is_of}
 use Rattle.page_model.specs.Core.{Core, RegionSeen, Reading, is_home_place, place_passes, why_or_read}
 use Rattle.page_model.specs.Core as core
@@ -12,11 +12,10 @@ use Rattle.page_model.specs.Steps.{on_region, placed, start_read}
 use Rattle.stripe_core.specs.Configs.{setup_of}
 use Rattle.stripe_core.proofs.Cores.{core_start}
 use Rattle.stripe_core.specs.declared.region.Lane.TheVariants as lane
-use Rattle.stripe_core.specs.declared.region.Region.{Region}
 use Rattle.stripe_core.specs.Parts.{region_seen, place_of}
 use Rattle.stripe_core.specs.InsideParts.{reads_of}
-use Rattle.stripe_core.specs.InsideTied.{Tied, IsSized, CountsWithin, read_at}
-use Rattle.stripe_core.proofs.Lanes.{Passing, passing, home_reads_none, changed_seen, reads_changed, read_is, reads_length, seen_at}
+use Rattle.stripe_core.specs.InsideTied.{Tied, CountsWithin, read_at}
+use Rattle.stripe_core.proofs.Lanes.{passing, home_reads_none, changed_seen, reads_changed, read_is, reads_length, seen_at}
 use Rattle.stripe_core.proofs.Looks.{at_now, absent_entry}
 use Rattle.stripe_core.proofs.ReadTies.{start_tied, pages_kept}
 use Rattle.stripe_core.proofs.Sizes.{resized, requeued, rezoned, framed, all_others}

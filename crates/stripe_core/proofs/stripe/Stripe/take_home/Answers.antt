@@ -1,4 +1,4 @@
-use Rattle.std.proofs.Common.{Bool, Some, ap, arith, refl, length, length-set, slice_get, slice_set, sym, ◌≡◌, ◌≤◌, ◌∙◌}
+use Rattle.std.proofs.Common.{Bool, ap, arith, refl, length, length-set, slice_get, slice_set, sym, ◌≤◌, ◌∙◌}
 use Rattle.std.specs.Prelude.{vec_capacity}
 use Rattle.std.proofs.lemmas.Option.{slice_get_within}
 use Rattle.page_model.specs.Core.{Core, LanePlace, Home, place_passes, writes}

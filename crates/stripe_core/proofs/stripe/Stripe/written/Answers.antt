@@ -1,6 +1,5 @@
-use Rattle.std.proofs.Common.{ap, true, ◌+◌, ◌∙◌, ◌≡◌}
+use Rattle.std.proofs.Common.{ap, ◌+◌, ◌∙◌, ◌≡◌}
 use Rattle.page_model.specs.Core.{Core, Home}
-use Rattle.page_model.specs.Core as core
 use Rattle.page_model.specs.Steps as step
 use Rattle.page_model.specs.Steps.{on_region, placed}
 use Rattle.stripe_core.specs.Trips.{TripSeen}
