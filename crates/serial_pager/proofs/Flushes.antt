@@ -1,67 +1,92 @@
--- Writing the dirty pages, one after another.
-use Rattle.std.proofs.Common.{Bool, Err, IfErr, Ok, OnOk, Result, ap, arith, false, inl, inr, is_err, refl, subst, sym, true, ℕ, ◌*◌, ◌+◌, ◌∙◌, ◌≡◌, ◌<◌, ◌≤◌, ◌⊎◌, ◌||◌, ◌==◌, ◌≢◌, List, Some, nat_lt, slice_get, get_or, suc, zero, [], ◌∷◌, ◌++◌, sum_by, take}
+-- Writing the dirty pages, one after another in order of key.
+use Rattle.std.proofs.Common.{Bool, Err, IfErr, List, None, Ok, OnOk, Option, Result, Some, [], ap, arith, cond, false, filter, find, inl, inr, is_err, length, map, min, nat_lt, not, refl, subst, sym, true, suc, ℕ, ◌*◌, ◌+◌, ◌++◌, ◌/◌, ◌%◌, ◌&&◌, ◌∙◌, ◌∷◌, ◌≡◌, ◌≤◌, ◌⊎◌, ◌||◌}
 use Rattle.std.proofs.Math.Bool.{or_comm}
+use Rattle.std.proofs.Math.Nat.{div-le_self}
+use Rattle.std.proofs.lemmas.Bool.{and_from, and_parts, cases_Bool, cases_lt, false_from_ne_true, or_cases, or_left, or_parts, or_right}
+use Rattle.std.proofs.lemmas.Bool.Decides.{nat_tests}
 use Rattle.std.proofs.lemmas.List.Folds.{list_any-append}
-use Rattle.std.specs.List.{list_any}
-use Rattle.page_model.specs.declared.entry.Cause.TheVariants.{Flush}
-use Rattle.std.proofs.lemmas.List.Sums.{sum_by_more, sum_by-take-le}
-use Rattle.std.proofs.lemmas.Option.{slice_get_within}
-use Rattle.page_base.specs.declared.keys.RegionShape.{RegionShape}
-use Rattle.page_base.specs.Pages.{stripe_of}
+use Rattle.std.specs.List.{AllByRecursion, list_any}
 use Rattle.histories.specs.Histories.{History}
-use Rattle.page_model.specs.declared.entry.Entry.{Entry}
-use Rattle.page_model.specs.Setups.{Setup, has_page, is_page_of}
-use Rattle.serial_pager.specs.Goings.{Went}
-use Rattle.serial_pager.specs.Seen.{StripeSeen}
-use Rattle.serial_pager.proofs.Goes.{all_both, went_nowhere, went_twice}
-use Rattle.serial_pager.proofs.Loops.{counts_twice, holds_same, list_weaker, rose_earlier}
-use Rattle.serial_pager.proofs.Holds.{stores_nothing, told_held}
-use Rattle.page_model.specs.declared.entry.Entry.TheVariants as entry
-use Rattle.std.proofs.lemmas.Bool.{and_parts, cases_eq, eqb-true, false_from_ne_true, or_cases, or_parts}
-use Rattle.page_base.specs.declared.keys.Key.{Key}
+use Rattle.page_base.specs.KeyOrder.{is_below, is_past}
 use Rattle.page_base.specs.Lanes.{Rose}
-use Rattle.page_model.specs.Core.{Core, is_dirty, is_home}
+use Rattle.page_base.specs.Pages.{quota_of, same}
+use Rattle.page_base.specs.declared.keys.Key.{Key}
+use Rattle.page_model.specs.declared.entry.Cause.TheVariants.{Flush}
+use Rattle.page_model.specs.declared.entry.Entry.{Entry}
+use Rattle.page_model.specs.declared.entry.Entry.TheVariants as entry
+use Rattle.page_model.specs.Core.{Core, Resident, dirties, is_dirty, is_home, next_dirty}
+use Rattle.page_model.specs.Residents.{is_in}
+use Rattle.page_model.specs.Readers.{IsNextToFlush}
 use Rattle.serial_pager.specs.declared.fault.PageFault.{PageFault}
 use Rattle.serial_pager.specs.Holdings.{CountsGrow, HoldsSame, IsClean, IsStored, count_at}
+use Rattle.serial_pager.specs.InsideGoings.{FailsToWriteOut, TriesToWrite, WritesOut}
+use Rattle.serial_pager.specs.InsideServices.{FailsToWrite, Tries, Writes}
 use Rattle.serial_pager.specs.Rests.{IsAtRest}
-use Rattle.serial_pager.specs.InsideServices.{FailsToWrite, Writes}
-use Rattle.serial_pager.specs.Writings.{RoseAt, WroteBack, flushes, is_failed_write}
+use Rattle.serial_pager.specs.Seen.{StripeSeen}
+use Rattle.serial_pager.specs.Writings.{Falls, RoseAt, WroteBack, WroteEach, flushes, is_failed_write, tries}
+use Rattle.serial_pager.proofs.Goes.{all_both, went_nowhere, went_twice}
+use Rattle.serial_pager.proofs.Holds.{stores_nothing, told_held}
+use Rattle.serial_pager.proofs.Keys.{same-true, same_self}
+use Rattle.serial_pager.proofs.Loops.{counts_twice, holds_same, list_weaker, rose_earlier}
 use Rattle.serial_pager.proofs.ModelLaws.{Laws}
-use Rattle.serial_pager.proofs.Owes.{NoMoreOwed, no_more_twice, unwritten_dirty, unwritten_owes, written_clean, written_dirty, written_owes}
+use Rattle.serial_pager.proofs.Owes.{NoMoreOwed, no_more_twice, unwritten_dirty, unwritten_owes, written_clean, written_dirty, written_other, written_owes}
+use Rattle.serial_pager.proofs.Pages.{changed_keys}
 use Rattle.serial_pager.proofs.Returns.{grows_unwritten, grows_written, names_unwritten}
 
--- what a try to write a page leaves
-module _ {X : Type 0} (c d : Core) (k : Key) where
-  pub page_clean : (r : Result X PageFault) → OnOk r (Writes k c d) → IfErr r (λ f. FailsToWrite k c d f) → (j : Key) → is_dirty c j ≡ false → is_dirty d j ≡ false
-  page_clean (Ok x) w f j e = false_from_ne_true (is_dirty d j) (λ t. let was = written_dirty c d k w j t in cc)
-  page_clean (Err fault) w f j e = unwritten_dirty c d k fault f j ∙ e
+-- ---- one page
 
-  pub page_owes : (r : Result X PageFault) → OnOk r (Writes k c d) → IfErr r (λ f. FailsToWrite k c d f) → NoMoreOwed c d
-  page_owes (Ok x) w f = written_owes c d k w
-  page_owes (Err fault) w f = unwritten_owes c d k fault f
+-- what a try to write a page does, by its answer
+pub tries_page : {X : Type 0} (c d : Core) (k : Key) (r : Result X PageFault) → OnOk r (Writes k c d) → IfErr r (λ f. FailsToWrite k c d f) → Tries k (is_err r) c d
+tries_page c d k (Ok x) w f = w
+tries_page c d k (Err fault) w f = (fault, f)
 
-  pub page_written : (r : Result X PageFault) → OnOk r (Writes k c d) → is_err r ≡ false → is_dirty d k ≡ false
-  page_written (Ok x) w e = written_clean c d k w
-  page_written (Err fault) w e = absurd cc
+pub tries_entries : {J X : Type 0} (noted : J → History Entry → Type 0) (k : Key) (a b : StripeSeen J) (r : Result X PageFault) → OnOk r (WritesOut noted k Flush a b)
+    → IfErr r (λ f. FailsToWriteOut noted k Flush a b f) → TriesToWrite noted k (is_err r) a b
+tries_entries noted k a b (Ok x) w f = w
+tries_entries noted k a b (Err fault) w f = (fault, f)
 
-  pub page_failed : (laws : Laws) → IsAtRest c → is_home c k.region ≡ true → (r : Result X PageFault) → IfErr r (λ f. FailsToWrite k c d f) → is_err r ≡ true → RoseAt c d k.region
-  page_failed laws rest home (Ok x) f e = absurd cc
-  page_failed laws rest home (Err fault) f e =
+abbrev keys_in : Core → List Key
+keys_in c = map (λ (r : Resident). r.key) c.pages
+
+module _ (c d : Core) (k : Key) where
+  pub page_dirty : (now : Bool) → Tries k now c d → (j : Key) → is_dirty d j ≡ true → is_dirty c j ≡ true
+  page_dirty true t j e = sym (unwritten_dirty c d k t.0 t.1 j) ∙ e
+  page_dirty false t j e = written_dirty c d k t j e
+
+  pub page_other : (now : Bool) → Tries k now c d → (j : Key) → (k ≡ j → ⊥) → is_dirty d j ≡ is_dirty c j
+  page_other true t j ne = unwritten_dirty c d k t.0 t.1 j
+  page_other false t j ne = written_other c d k t j ne
+
+  pub page_owes : (now : Bool) → Tries k now c d → NoMoreOwed c d
+  page_owes true t = unwritten_owes c d k t.0 t.1
+  page_owes false t = written_owes c d k t
+
+  pub page_failed : (laws : Laws) → IsAtRest c → is_home c k.region ≡ true → Tries k true c d → RoseAt c d k.region
+  page_failed laws rest home t =
+      let fault = t.0 in
+      let f = t.1 in
       let own : FailsToWrite fault.key c d fault = subst (λ j. FailsToWrite j c d fault) (sym f.key) f in
       let names = names_unwritten laws c d rest fault (subst (λ (j : Key). is_home c j.region ≡ true) (sym f.key) home) own in
       subst (λ (j : Key). RoseAt c d j.region) f.key (subst (λ (n : ℕ). Rose (count_at c fault.key.region) n) names.count names.rose)
 
-  pub page_grows : (laws : Laws) → IsAtRest c → is_home c k.region ≡ true → (r : Result X PageFault) → OnOk r (Writes k c d) → IfErr r (λ f. FailsToWrite k c d f) → CountsGrow c d
-  page_grows laws rest home (Ok x) w f = grows_written laws c d rest k home w
-  page_grows laws rest home (Err fault) w f = grows_unwritten laws c d rest k home fault f
+  pub page_grows : (laws : Laws) → IsAtRest c → is_home c k.region ≡ true → (now : Bool) → Tries k now c d → CountsGrow c d
+  page_grows laws rest home true t = grows_unwritten laws c d rest k home t.0 t.1
+  page_grows laws rest home false t = grows_written laws c d rest k home t
+
+  pub page_keys : (now : Bool) → Tries k now c d → keys_in d ≡ keys_in c
+  page_keys true t = ap keys_in t.1.is ∙ changed_keys k (λ (r : Resident). record r { protected = true }) c.pages (λ r. refl)
+  page_keys false t =
+      ap keys_in t.is
+      ∙ (changed_keys k (λ (r : Resident). record r { dirty = r.dirty && not r.protected }) (map (λ (r : Resident). cond (same r.key k) (record r { protected = true }) r) c.pages) (λ r. refl)
+      ∙ changed_keys k (λ (r : Resident). record r { protected = true }) c.pages (λ r. refl))
 
 -- ---- the entries of writes for a flush
 
 module _ {J : Type 0} (noted : J → History Entry → Type 0) where
-  pub back_none : (a : StripeSeen J) → WroteBack noted false a a
+  abbrev pub back_none : (a : StripeSeen J) → WroteBack noted false a a
   back_none a = record { entries = []; pass = refl; fails = refl; went = went_nowhere noted a }
 
-  pub back_twice : (f g : Bool) (a b c : StripeSeen J) → WroteBack noted f a b → WroteBack noted g b c → WroteBack noted (f || g) a c
+  abbrev pub back_twice : (f g : Bool) (a b c : StripeSeen J) → WroteBack noted f a b → WroteBack noted g b c → WroteBack noted (f || g) a c
   back_twice f g a b c one two = record {
     entries = two.entries ++ one.entries;
     pass = all_both noted flushes two.entries one.entries two.pass one.pass;
@@ -70,103 +95,122 @@ module _ {J : Type 0} (noted : J → History Entry → Type 0) where
   }
 
   -- the entries of one write tell whether it failed
-  pub page_back : {X : Type 0} (k : Key) (a b : StripeSeen J) (r : Result X PageFault) → OnOk r ((at : ℕ) × (bytes : List ℕ) × Went noted (entry.Written k at bytes ∷ entry.StartWrite k Flush ∷ []) a b)
-      → IfErr r (λ f. Went noted (entry.WriteFailed k f.faults ∷ entry.StartWrite k Flush ∷ []) a b) → WroteBack noted (is_err r) a b
-  page_back k a b (Ok x) w f = record { entries = entry.Written k w.0 w.1 ∷ entry.StartWrite k Flush ∷ []; pass = refl; fails = refl; went = w.2 }
-  page_back k a b (Err fault) w f = record { entries = entry.WriteFailed k fault.faults ∷ entry.StartWrite k Flush ∷ []; pass = refl; fails = refl; went = f }
+  abbrev pub page_back : (k : Key) (a b : StripeSeen J) (now : Bool) → TriesToWrite noted k now a b → WroteBack noted now a b
+  page_back k a b true w = record { entries = entry.WriteFailed k w.0.faults ∷ entry.StartWrite k Flush ∷ []; pass = refl; fails = refl; went = w.1 }
+  page_back k a b false w = record { entries = entry.Written k w.0 w.1 ∷ entry.StartWrite k Flush ∷ []; pass = refl; fails = refl; went = w.2 }
 
--- ---- a region's pages, one after another
+  pub page_tries : (k : Key) (a b : StripeSeen J) (now : Bool) (w : TriesToWrite noted k now a b) (es : List Entry) → tries ((page_back k a b now w).entries ++ es) ≡ k ∷ tries es
+  page_tries k a b true w es = refl
+  page_tries k a b false w es = refl
 
--- what trying to write the pages below `upto` of a region has done
-pub record Tried {J : Type 0} (has_noted : J → History Entry → Type 0) (region upto : ℕ) (failed : Bool) (old new : StripeSeen J) : Type 0 where
+  pub page_events : (k : Key) (a b : StripeSeen J) (now : Bool) (w : TriesToWrite noted k now a b) → b.core.events ≡ a.core.events + 2
+  page_events k a b true w = w.1.events
+  page_events k a b false w = w.2.events
+
+-- ---- keys in their order
+
+before_next : (after : Option Key) (j k : Key) → is_past after j ≡ false → is_past after k ≡ true → is_below j k ≡ true
+before_next None j k e f = absurd cc
+before_next (Some a) j k e f = grind (arith, nat_tests)
+
+past_through : (after : Option Key) (k j : Key) → is_past after k ≡ true → is_below k j ≡ true → is_past after j ≡ true
+past_through None k j e f = refl
+past_through (Some a) k j e f = grind (arith, nat_tests)
+
+not_below_self : (k : Key) → is_below k k ≡ false
+not_below_self k = grind (arith, nat_tests)
+
+below_apart : (j k : Key) → is_below j k ≡ true → is_below k j ≡ false
+below_apart j k e = grind (arith, nat_tests)
+
+above_other : (j k : Key) → same k j ≡ false → is_below j k ≡ false → is_below k j ≡ true
+above_other j k e f = grind (arith, nat_tests)
+
+apart_from : (j k : Key) → same k j ≡ false → k ≡ j → ⊥
+apart_from j k e is = let here : same k j ≡ true = ap (λ x. same x j) is ∙ same_self j in let no : true ≡ false = sym here ∙ e in cc
+
+all_from : (P : Key → Type 0) (all ks : List Key) → ((j : Key) → is_in j ks ≡ true → is_in j all ≡ true) → ((j : Key) → is_in j all ≡ true → P j) → AllByRecursion P ks
+all_from P all [] sub p = tt
+all_from P all (k ∷ ks) sub p =
+    (p k (sub k (or_left (same k k) (is_in k ks) (same_self k))), all_from P all ks (λ j e. sub j (or_right (same k j) (is_in j ks) e)) p)
+
+-- ---- how many pages are left
+
+fewer_kept : (P Q : Key → Bool) (ks : List Key) → ((j : Key) → Q j ≡ true → P j ≡ true) → length (filter Q ks) ≤ length (filter P ks)
+fewer_kept P Q [] weak = omega arith
+fewer_kept P Q (x ∷ xs) weak = go (P x) (Q x) (weak x) (fewer_kept P Q xs weak)
+  where
+    go : (p q : Bool) → (q ≡ true → p ≡ true) → length (filter Q xs) ≤ length (filter P xs) → length (cond q (x ∷ filter Q xs) (filter Q xs)) ≤ length (cond p (x ∷ filter P xs) (filter P xs))
+    go true true w ih = omega (arith, ih)
+    go true false w ih = omega (arith, ih)
+    go false true w ih = absurd (let no = w refl in cc)
+    go false false w ih = ih
+
+one_less : (P Q : Key → Bool) (ks : List Key) (k : Key) → ((j : Key) → Q j ≡ true → P j ≡ true) → is_in k ks ≡ true → P k ≡ true → Q k ≡ false → length (filter Q ks) + 1 ≤ length (filter P ks)
+one_less P Q [] k weak there p q = absurd cc
+one_less P Q (x ∷ xs) k weak there p q = elim (or_cases (same x k) (is_in k xs) there) [
+  | inl t ↦
+      let is : x ≡ k = same-true x k t in
+      here (P x) (Q x) (ap P is ∙ p) (ap Q is ∙ q) (fewer_kept P Q xs weak)
+  | inr later ↦ go (P x) (Q x) (weak x) (one_less P Q xs k weak later p q)
+]
+  where
+    here : (p q : Bool) → p ≡ true → q ≡ false → length (filter Q xs) ≤ length (filter P xs) → length (cond q (x ∷ filter Q xs) (filter Q xs)) + 1 ≤ length (cond p (x ∷ filter P xs) (filter P xs))
+    here true true e f ih = absurd cc
+    here true false e f ih = omega (arith, ih)
+    here false q e f ih = absurd cc
+
+    go : (p q : Bool) → (q ≡ true → p ≡ true) → length (filter Q xs) + 1 ≤ length (filter P xs) → length (cond q (x ∷ filter Q xs) (filter Q xs)) + 1 ≤ length (cond p (x ∷ filter P xs) (filter P xs))
+    go true true w ih = omega (arith, ih)
+    go true false w ih = omega (arith, ih)
+    go false true w ih = absurd (let no = w refl in cc)
+    go false false w ih = ih
+
+at_most : (P : Key → Bool) (ks : List Key) → length (filter P ks) ≤ length ks
+at_most P [] = omega arith
+at_most P (x ∷ xs) = go (P x) (at_most P xs)
+  where
+    go : (p : Bool) → length (filter P xs) ≤ length xs → length (cond p (x ∷ filter P xs) (filter P xs)) ≤ length (x ∷ xs)
+    go true ih = omega (arith, ih)
+    go false ih = omega (arith, ih)
+
+length_keys : (rs : List Resident) → length (map (λ (r : Resident). r.key) rs) ≡ length rs
+length_keys [] = refl
+length_keys (r ∷ rs) = ap suc (length_keys rs)
+
+dirty_in : (rs : List Resident) (k : Key) → dirties (find (λ (r : Resident). same r.key k) rs) ≡ true → is_in k (map (λ (r : Resident). r.key) rs) ≡ true
+dirty_in [] k e = absurd cc
+dirty_in (r ∷ rs) k e = go (same r.key k) e (dirty_in rs k)
+  where
+    go : (b : Bool) → dirties (cond b (Some r) (find (λ (x : Resident). same x.key k) rs)) ≡ true → (dirties (find (λ (x : Resident). same x.key k) rs) ≡ true → is_in k (map (λ (x : Resident). x.key) rs) ≡ true) → (b || is_in k (map (λ (x : Resident). x.key) rs)) ≡ true
+    go true e ih = refl
+    go false e ih = ih e
+
+-- how many dirty pages past a key a stripe has
+abbrev pub left : Core → Option Key → ℕ
+left c after = length (filter (λ (j : Key). is_dirty c j && is_past after j) (keys_in c))
+
+-- ---- the pages, one after another
+
+-- what trying to write the dirty pages that aren't past a key has done
+pub record Tried {J : Type 0} (has_noted : J → History Entry → Type 0) (after : Option Key) (failed : Bool) (old new : StripeSeen J) : Type 0 where
   pub rest : IsAtRest new.core
-  pub went : WroteBack has_noted failed old new
+  pub back : WroteBack has_noted failed old new
   pub owes : NoMoreOwed old.core new.core
   pub counts : CountsGrow old.core new.core
-  pub stays_clean : (j : Key) → is_dirty old.core j ≡ false → is_dirty new.core j ≡ false
-  pub rose : failed ≡ true → RoseAt old.core new.core region
-  pub written_ : failed ≡ false → (j : Key) → j.region ≡ region → j.page < upto → has_page new.core.setup j ≡ true → is_dirty new.core j ≡ false
-  pub few : new.core.events ≤ old.core.events + 2 * upto
-
--- what one try did
-pub record TriedOne {J : Type 0} (has_noted : J → History Entry → Type 0) (k : Key) (failed : Bool) (old new : StripeSeen J) : Type 0 where
-  pub rest : IsAtRest new.core
-  pub went : WroteBack has_noted failed old new
-  pub owes : NoMoreOwed old.core new.core
-  pub counts : CountsGrow old.core new.core
-  pub stays_clean : (j : Key) → is_dirty old.core j ≡ false → is_dirty new.core j ≡ false
-  pub rose : failed ≡ true → RoseAt old.core new.core k.region
-  pub written_ : failed ≡ false → is_dirty new.core k ≡ false
-  pub few : new.core.events ≤ old.core.events + 2
+  pub rose : failed ≡ true → (r : ℕ) × RoseAt old.core new.core r
+  pub behind : (j : Key) → is_past after j ≡ false → is_dirty new.core j ≡ true → RoseAt old.core new.core j.region
+  pub clean : failed ≡ false → (j : Key) → is_past after j ≡ false → is_dirty new.core j ≡ false
+  pub ahead : (j : Key) → is_past after j ≡ true → is_dirty new.core j ≡ is_dirty old.core j
+  pub rising : Falls (tries back.entries)
+  pub each : (j : Key) → is_in j (tries back.entries) ≡ (is_dirty old.core j && not (is_past after j))
+  pub few : new.core.events + 2 * left new.core after ≤ old.core.events + 2 * left old.core None
 
 rose_before : (a b c : Core) (r : ℕ) → CountsGrow a b → RoseAt b c r → RoseAt a c r
 rose_before a b c r one two = rose_earlier (count_at a r) (count_at b r) (count_at c r) (one r) two
 
 rose_after : (a b c : Core) (r : ℕ) → RoseAt a b r → CountsGrow b c → RoseAt a c r
 rose_after a b c r one two = let low = two r in omega (arith, low, one)
-
-either_way : (p q : ℕ) → p < q + 1 → (p < q) ⊎ (p ≡ q)
-either_way p q lt = elim (cases_eq p q) [ inl e ↦ inr e | inr ne ↦ inl (omega (arith, ne, lt)) ]
-
-module _ {J : Type 0} (noted : J → History Entry → Type 0) (region : ℕ) where
-  pub tried_none : (a : StripeSeen J) → IsAtRest a.core → Tried noted region 0 false a a
-  tried_none a rest = record {
-    rest = rest;
-    went = back_none noted a;
-    owes = λ j e. e;
-    counts = λ r. omega arith;
-    stays_clean = λ j e. e;
-    rose = λ e. absurd cc;
-    written_ = λ e j at lt page. absurd (omega arith);
-    few = omega arith;
-  }
-
-  -- a page that is none of the stripe's
-  pub tried_other : (p : ℕ) (failed : Bool) (o a : StripeSeen J) → Tried noted region p failed o a → ((j : Key) → j.region ≡ region → j.page ≡ p → has_page a.core.setup j ≡ true → ⊥) → Tried noted region (p + 1) failed o a
-  tried_other p failed o a t none = record {
-    rest = t.rest;
-    went = t.went;
-    owes = t.owes;
-    counts = t.counts;
-    stays_clean = t.stays_clean;
-    rose = t.rose;
-    written_ = λ e j at lt page. elim (either_way j.page p lt) [
-      | inl below ↦ t.written_ e j at below page
-      | inr here ↦ absurd (none j at here page)
-    ];
-    few = let sofar = t.few in omega (arith, sofar);
-  }
-
-  pub tried_page : (p : ℕ) (failed : Bool) (o a b : StripeSeen J) → Tried noted region p failed o a → (now : Bool) → TriedOne noted (record { region = region; page = p }) now a b → Tried noted region (p + 1) (failed || now) o b
-  tried_page p failed o a b t now q = record {
-    rest = q.rest;
-    went = back_twice noted failed now o a b t.went q.went;
-    owes = no_more_twice o.core a.core b.core t.owes q.owes;
-    counts = counts_twice o.core a.core b.core t.counts q.counts;
-    stays_clean = λ j e. q.stays_clean j (t.stays_clean j e);
-    rose = λ e. elim (or_cases failed now e) [
-      | inl before ↦ rose_after o.core a.core b.core region (t.rose before) q.counts
-      | inr here ↦ rose_before o.core a.core b.core region t.counts (q.rose here)
-    ];
-    written_ = λ e j at lt page.
-        let parts = or_parts failed now e in
-        elim (either_way j.page p lt) [
-          | inl below ↦ q.stays_clean j (t.written_ parts.0 j at below (subst (λ (s : Setup). has_page s j ≡ true) q.went.went.setup page))
-          | inr here ↦
-              let is : record { region = region; page = p } ≡ j = λ i. record { region = sym at i; page = sym here i } in
-              subst (λ (x : Key). is_dirty b.core x ≡ false) is (q.written_ parts.1)
-        ];
-    few = let sofar = t.few in let more = q.few in omega (arith, sofar, more);
-  }
-
--- where another stripe's number comes out, the page is none of this one's
-pub page_of_other : (s : Setup) (shape : RegionShape) (region p n : ℕ) → slice_get s.shapes region ≡ Some shape → n ≡ stripe_of s.stripes shape.group region p → n ≢ s.number → (j : Key) → j.region ≡ region → j.page ≡ p → has_page s j ≡ true → ⊥
-page_of_other s shape region p n is comes other j at here page =
-    let shaped : slice_get s.shapes j.region ≡ Some shape = ap (slice_get s.shapes) at ∙ is in
-    let both : is_page_of s (Some shape) j ≡ true = subst (λ o. is_page_of s o j ≡ true) shaped page in
-    let mine : (stripe_of s.stripes shape.group j.region j.page == s.number) ≡ true = (and_parts (nat_lt j.page shape.pages) (stripe_of s.stripes shape.group j.region j.page == s.number) both).1 in
-    let same_number : stripe_of s.stripes shape.group j.region j.page ≡ s.number = eqb-true (stripe_of s.stripes shape.group j.region j.page) s.number mine in
-    other (comes ∙ (ap (λ r. stripe_of s.stripes shape.group r p) (sym at) ∙ (ap (λ q. stripe_of s.stripes shape.group j.region q) (sym here) ∙ same_number)))
 
 pub or_true : (b : Bool) → (b || true) ≡ true
 or_true true = refl
@@ -176,45 +220,161 @@ pub or_false : (b : Bool) → (b || false) ≡ b
 or_false true = refl
 or_false false = refl
 
-module _ {J : Type 0} (noted : J → History Entry → Type 0) (region p : ℕ) (failed : Bool) (o a b : StripeSeen J) where
-  pub tried_failed : Tried noted region p failed o a → TriedOne noted (record { region = region; page = p }) true a b → Tried noted region (p + 1) true o b
-  tried_failed t q = subst (λ f. Tried noted region (p + 1) f o b) (or_true failed) (tried_page noted region p failed o a b t true q)
+and_true : (b : Bool) → (b && true) ≡ b
+and_true true = refl
+and_true false = refl
 
-  pub tried_well : Tried noted region p failed o a → TriedOne noted (record { region = region; page = p }) false a b → Tried noted region (p + 1) failed o b
-  tried_well t q = subst (λ f. Tried noted region (p + 1) f o b) (or_false failed) (tried_page noted region p failed o a b t false q)
+none_of : (b : Bool) → false ≡ (b && not true)
+none_of true = refl
+none_of false = refl
 
--- ---- the regions, one after another
+module _ {J : Type 0} (noted : J → History Entry → Type 0) where
+  pub tried_none : (a : StripeSeen J) → IsAtRest a.core → Tried noted None false a a
+  tried_none a rest = record {
+    rest = rest;
+    back = back_none noted a;
+    owes = λ j e. e;
+    counts = λ r. omega arith;
+    rose = λ e. absurd cc;
+    behind = λ j e f. absurd cc;
+    clean = λ e j f. absurd cc;
+    ahead = λ j e. refl;
+    rising = tt;
+    each = λ j. none_of (is_dirty a.core j);
+    few = omega arith;
+  }
 
--- what trying to write the regions below `upto` has done
-pub record TriedAll {J : Type 0} (has_noted : J → History Entry → Type 0) (upto : ℕ) (failed : Bool) (old new : StripeSeen J) : Type 0 where
-  pub rest : IsAtRest new.core
-  pub went : WroteBack has_noted failed old new
-  pub owes : NoMoreOwed old.core new.core
-  pub counts : CountsGrow old.core new.core
-  pub each : (r : ℕ) → r < upto → RoseAt old.core new.core r ⊎ IsClean new.core r
-  pub rose : failed ≡ true → (r : ℕ) × RoseAt old.core new.core r
-  pub clean : failed ≡ false → (r : ℕ) → r < upto → IsClean new.core r
-  pub few : new.core.events ≤ old.core.events + 2 * sum_by (λ (shape : RegionShape). shape.pages) (take upto old.core.setup.shapes)
+module _ {J : Type 0} (noted : J → History Entry → Type 0) (laws : Laws) (after : Option Key) (failed now : Bool) (k : Key) (o a b : StripeSeen J)
+    (t : Tried noted after failed o a) (next : IsNextToFlush a.core after k) (rest : IsAtRest b.core) (does : Tries k now a.core b.core) (went : TriesToWrite noted k now a b) where
+  here : is_home a.core k.region ≡ true
+  here = t.rest.home k.region (laws.pages.region a.core.setup k next.page)
 
--- what trying to write one region did
-pub record TriedRegion {J : Type 0} (has_noted : J → History Entry → Type 0) (region pages : ℕ) (failed : Bool) (old new : StripeSeen J) : Type 0 where
-  pub rest : IsAtRest new.core
-  pub went : WroteBack has_noted failed old new
-  pub owes : NoMoreOwed old.core new.core
-  pub counts : CountsGrow old.core new.core
-  pub stays_clean : (j : Key) → is_dirty old.core j ≡ false → is_dirty new.core j ≡ false
-  pub rose : failed ≡ true → RoseAt old.core new.core region
-  pub clean : failed ≡ false → IsClean new.core region
-  pub few : new.core.events ≤ old.core.events + 2 * pages
+  grows : CountsGrow a.core b.core
+  grows = page_grows a.core b.core k laws t.rest here now does
+
+  abbrev back : WroteBack noted (failed || now) o b
+  back = back_twice noted failed now o a b t.back (page_back noted k a b now went)
+
+  keyed : tries back.entries ≡ k ∷ tries t.back.entries
+  keyed = page_tries noted k a b now went t.back.entries
+
+  dirty_first : is_dirty o.core k ≡ true
+  dirty_first = sym (t.ahead k next.past) ∙ next.dirty
+
+  -- a page between the one before and this one is clean
+  passed : (j : Key) → same k j ≡ false → is_below k j ≡ false → is_past after j ≡ true → is_dirty a.core j ≡ false
+  passed j ne low past = false_from_ne_true (is_dirty a.core j) (λ d.
+      let first : is_below j k ≡ false = next.first j d past in
+      let above : is_below k j ≡ true = above_other j k ne first in
+      let no : true ≡ false = sym above ∙ low in cc)
+
+  tried_before : (j : Key) → is_in j (tries t.back.entries) ≡ true → is_below j k ≡ true
+  tried_before j there =
+      let parts = and_parts (is_dirty o.core j) (not (is_past after j)) (sym (t.each j) ∙ there) in
+      before_next after j k (not_true (is_past after j) parts.1) next.past
+    where
+      not_true : (x : Bool) → not x ≡ true → x ≡ false
+      not_true true e = absurd cc
+      not_true false e = refl
+
+  each_other : (j : Key) → same k j ≡ false → (is_dirty o.core j && not (is_past after j)) ≡ (is_dirty o.core j && not (is_below k j))
+  each_other j ne = elim (cases_Bool (is_past after j)) [
+    | inl past ↦ elim (cases_Bool (is_dirty o.core j)) [
+      | inl d ↦
+          let above : is_below k j ≡ true = above_other j k ne (next.first j (t.ahead j past ∙ d) past) in
+          ap (λ x. is_dirty o.core j && not x) (past ∙ sym above)
+      | inr d ↦ ap (λ x. x && not (is_past after j)) d ∙ sym (ap (λ x. x && not (is_below k j)) d)
+    ]
+    | inr before ↦
+        let low : is_below k j ≡ false = below_apart j k (before_next after j k before next.past) in
+        ap (λ x. is_dirty o.core j && not x) (before ∙ sym low)
+  ]
+
+  each : (j : Key) → is_in j (tries back.entries) ≡ (is_dirty o.core j && not (is_below k j))
+  each j = ap (is_in j) keyed ∙ elim (cases_Bool (same k j)) [
+    | inl t' ↦
+        let is : k ≡ j = same-true k j t' in
+        let low : is_below k j ≡ false = ap (is_below k) (sym is) ∙ not_below_self k in
+        let d : is_dirty o.core j ≡ true = ap (is_dirty o.core) (sym is) ∙ dirty_first in
+        ap (λ x. x || is_in j (tries t.back.entries)) t' ∙ sym (ap (λ x. x && not (is_below k j)) d ∙ ap not low)
+    | inr ne ↦ ap (λ x. x || is_in j (tries t.back.entries)) ne ∙ (t.each j ∙ each_other j ne)
+  ]
+
+  behind : (j : Key) → is_below k j ≡ false → is_dirty b.core j ≡ true → RoseAt o.core b.core j.region
+  behind j low d = elim (cases_Bool (same k j)) [
+    | inl t' ↦ itself (same-true k j t') now does
+    | inr ne ↦ elim (cases_Bool (is_past after j)) [
+      | inl past ↦ absurd (let gone = passed j ne low past in let was = page_dirty a.core b.core k now does j d in let no : true ≡ false = sym was ∙ gone in cc)
+      | inr before ↦ rose_after o.core a.core b.core j.region (t.behind j before (page_dirty a.core b.core k now does j d)) grows
+    ]
+  ]
+    where
+      itself : k ≡ j → (x : Bool) → Tries k x a.core b.core → RoseAt o.core b.core j.region
+      itself is true f = subst (λ (i : Key). RoseAt o.core b.core i.region) is (rose_before o.core a.core b.core k.region t.counts (page_failed a.core b.core k laws t.rest here f))
+      itself is false w = absurd (let gone : is_dirty b.core j ≡ false = ap (is_dirty b.core) (sym is) ∙ written_clean a.core b.core k w in let no : true ≡ false = sym d ∙ gone in cc)
+
+  clean : (failed || now) ≡ false → (j : Key) → is_below k j ≡ false → is_dirty b.core j ≡ false
+  clean e j low = false_from_ne_true (is_dirty b.core j) (λ d.
+      let parts = or_parts failed now e in
+      elim (cases_Bool (same k j)) [
+        | inl t' ↦ itself (same-true k j t') now parts.1 does d
+        | inr ne ↦
+            let was = page_dirty a.core b.core k now does j d in
+            elim (cases_Bool (is_past after j)) [
+              | inl past ↦ let gone = passed j ne low past in let no : true ≡ false = sym was ∙ gone in cc
+              | inr before ↦ let gone = t.clean parts.0 j before in let no : true ≡ false = sym was ∙ gone in cc
+            ]
+      ])
+    where
+      itself : k ≡ j → (x : Bool) → x ≡ false → Tries k x a.core b.core → is_dirty b.core j ≡ true → ⊥
+      itself is true n f d = absurd cc
+      itself is false n w d = let gone : is_dirty b.core j ≡ false = ap (is_dirty b.core) (sym is) ∙ written_clean a.core b.core k w in let no : true ≡ false = sym d ∙ gone in cc
+
+  ahead : (j : Key) → is_below k j ≡ true → is_dirty b.core j ≡ is_dirty o.core j
+  ahead j above =
+      page_other a.core b.core k now does j (λ is. let no : true ≡ false = sym above ∙ (ap (λ x. is_below k x) (sym is) ∙ not_below_self k) in cc)
+      ∙ t.ahead j (past_through after k j next.past above)
+
+  pub left_less : left b.core (Some k) + 1 ≤ left a.core after
+  left_less =
+      let P : Key → Bool = λ j. is_dirty a.core j && is_past after j in
+      let Q : Key → Bool = λ j. is_dirty b.core j && is_past (Some k) j in
+      let weak : (j : Key) → Q j ≡ true → P j ≡ true = λ j e.
+      let parts = and_parts (is_dirty b.core j) (is_past (Some k) j) e in
+      and_from (is_dirty a.core j) (is_past after j) (page_dirty a.core b.core k now does j parts.0) (past_through after k j next.past parts.1) in
+      let none : Q k ≡ false = last (is_dirty b.core k) (is_below k k) (not_below_self k) in
+      let less = one_less P Q (keys_in a.core) k weak (dirty_in a.core.pages k next.dirty) (and_from (is_dirty a.core k) (is_past after k) next.dirty next.past) none in
+      subst (λ ks. length (filter Q ks) + 1 ≤ length (filter P (keys_in a.core))) (sym (page_keys a.core b.core k now does)) less
+    where
+      last : (x y : Bool) → y ≡ false → (x && y) ≡ false
+      last true y e = e
+      last false y e = refl
+
+  pub tried_more : Tried noted (Some k) (failed || now) o b
+  tried_more = record {
+    rest = rest;
+    back = back;
+    owes = no_more_twice o.core a.core b.core t.owes (page_owes a.core b.core k now does);
+    counts = counts_twice o.core a.core b.core t.counts grows;
+    rose = λ e. elim (or_cases failed now e) [
+      | inl before ↦ let x = t.rose before in (x.0, rose_after o.core a.core b.core x.0 x.1 grows)
+      | inr this ↦ (k.region, rose_before o.core a.core b.core k.region t.counts (page_failed a.core b.core k laws t.rest here (subst (λ x. Tries k x a.core b.core) this does)))
+    ];
+    behind = behind;
+    clean = clean;
+    ahead = ahead;
+    rising = subst Falls (sym keyed) (all_from (λ j. is_below j k ≡ true) (tries t.back.entries) (tries t.back.entries) (λ j e. e) tried_before, t.rising);
+    each = each;
+    few = let sofar = t.few in let less = left_less in let two = page_events noted k a b now went in omega (arith, sofar, less, two);
+  }
+
+-- ---- the end
 
 pub stored : (laws : Laws) (c : Core) (r : ℕ) → IsAtRest c → IsClean c r → IsStored c r
 stored laws c r rest clean = record {
   clean = clean;
   told = λ k at page is. told_held laws rest.history c k rest.stands (rest.home k.region (laws.pages.region c.setup k page)) page is (clean k at page);
 }
-
-clean_later : (a b : Core) (r : ℕ) → b.setup ≡ a.setup → ((j : Key) → is_dirty a j ≡ false → is_dirty b j ≡ false) → IsClean a r → IsClean b r
-clean_later a b r same_setup stays clean j at page = stays j (clean j at (subst (λ (s : Setup). has_page s j ≡ true) same_setup page))
 
 flush_stores : (e : Entry) → flushes e ≡ true → stores_nothing e ≡ true
 flush_stores (entry.Save j place bytes) e = absurd cc
@@ -223,68 +383,50 @@ flush_stores x e = refl
 pub flushes_hold : (laws : Laws) {J : Type 0} (noted : J → History Entry → Type 0) (failed : Bool) (old new : StripeSeen J) → IsAtRest old.core → IsAtRest new.core → WroteBack noted failed old new → HoldsSame old.core new.core
 flushes_hold laws noted failed old new a b w = holds_same laws noted w.entries old new a b w.went (list_weaker flushes stores_nothing w.entries flush_stores w.pass)
 
-got_or : (shapes : List RegionShape) (r : ℕ) (shape : RegionShape) → slice_get shapes r ≡ Some shape → get_or shapes r shape ≡ shape
-got_or [] r shape is = absurd cc
-got_or (x ∷ xs) zero shape is = cc
-got_or (x ∷ xs) (suc r) shape is = got_or xs r shape is
+module _ {J : Type 0} (noted : J → History Entry → Type 0) (laws : Laws) (after : Option Key) (failed : Bool) (o a : StripeSeen J) (t : Tried noted after failed o a) (end : next_dirty a.core after ≡ None) where
+  clean_past : (j : Key) → is_past after j ≡ true → is_dirty a.core j ≡ false
+  clean_past j past = laws.flush.none a.core after j end past
 
-sum_step : (shapes : List RegionShape) (r : ℕ) (shape : RegionShape) → slice_get shapes r ≡ Some shape → sum_by (λ (s : RegionShape). s.pages) (take (r + 1) shapes) ≡ sum_by (λ (s : RegionShape). s.pages) (take r shapes) + shape.pages
-sum_step shapes r shape is = sum_by_more (λ (s : RegionShape). s.pages) shapes r shape (slice_get_within shapes r shape is) ∙ ap (λ (x : RegionShape). sum_by (λ (s : RegionShape). s.pages) (take r shapes) + x.pages) (got_or shapes r shape is)
+  pub all_stored : failed ≡ false → (r : ℕ) → IsStored a.core r
+  all_stored e r = stored laws a.core r t.rest (λ j at page. elim (cases_Bool (is_past after j)) [
+    | inl past ↦ clean_past j past
+    | inr before ↦ t.clean e j before
+  ])
 
-module _ {J : Type 0} (noted : J → History Entry → Type 0) where
-  pub all_none : (a : StripeSeen J) → IsAtRest a.core → TriedAll noted 0 false a a
-  all_none a rest = record {
-    rest = rest;
-    went = back_none noted a;
-    owes = λ j e. e;
-    counts = λ r. omega arith;
-    each = λ r lt. absurd (omega arith);
-    rose = λ e. absurd cc;
-    clean = λ e r lt. absurd (omega arith);
-    few = omega arith;
-  }
+  -- a region whose lane counts no more faults than before is all written
+  pub each_tried : (r : ℕ) → RoseAt o.core a.core r ⊎ IsStored a.core r
+  each_tried r = elim (cases_lt (count_at a.core r) (min (count_at o.core r + 1) 18446744073709551615)) [
+    | inl low ↦ inr (stored laws a.core r t.rest (λ j at page. false_from_ne_true (is_dirty a.core j) (λ d. elim (cases_Bool (is_past after j)) [
+      | inl past ↦ let gone = clean_past j past in let no : true ≡ false = sym d ∙ gone in cc
+      | inr before ↦ let rose : RoseAt o.core a.core r = subst (λ x. RoseAt o.core a.core x) at (t.behind j before d) in omega (arith, rose, low)
+    ])))
+    | inr high ↦ inl high
+  ]
 
-  pub all_more : (r : ℕ) (shape : RegionShape) (failed : Bool) (o a b : StripeSeen J) → TriedAll noted r failed o a → slice_get o.core.setup.shapes r ≡ Some shape → (now : Bool) → TriedRegion noted r shape.pages now a b → TriedAll noted (r + 1) (failed || now) o b
-  all_more r shape failed o a b t is now q = record {
-    rest = q.rest;
-    went = back_twice noted failed now o a b t.went q.went;
-    owes = no_more_twice o.core a.core b.core t.owes q.owes;
-    counts = counts_twice o.core a.core b.core t.counts q.counts;
-    each = λ i lt. elim (either_way i r lt) [
-      | inl below ↦ elim (t.each i below) [
-        | inl rose ↦ inl (rose_after o.core a.core b.core i rose q.counts)
-        | inr clean ↦ inr (clean_later a.core b.core i q.went.went.setup q.stays_clean clean)
-      ]
-      | inr here ↦ subst (λ x. RoseAt o.core b.core x ⊎ IsClean b.core x) (sym here) (this now refl)
-    ];
-    rose = λ e. elim (or_cases failed now e) [
-      | inl before ↦ let x = t.rose before in (x.0, rose_after o.core a.core b.core x.0 x.1 q.counts)
-      | inr here ↦ (r, rose_before o.core a.core b.core r t.counts (q.rose here))
-    ];
-    clean = λ e i lt.
-        let parts = or_parts failed now e in
-        elim (either_way i r lt) [
-          | inl below ↦ clean_later a.core b.core i q.went.went.setup q.stays_clean (t.clean parts.0 i below)
-          | inr here ↦ subst (λ x. IsClean b.core x) (sym here) (q.clean parts.1)
-        ];
-    few = let sofar = t.few in let more = q.few in let sum = sum_step o.core.setup.shapes r shape is in omega (arith, sofar, more, sum);
-  }
+  pub each_once : WroteEach noted failed o a
+  each_once = record { back = t.back; once = record { rising = t.rising; each = λ j. t.each j ∙ whole j } }
     where
-      this : (x : Bool) → now ≡ x → RoseAt o.core b.core r ⊎ IsClean b.core r
-      this true e = inl (rose_before o.core a.core b.core r t.counts (q.rose e))
-      this false e = inr (q.clean e)
+      whole : (j : Key) → (is_dirty o.core j && not (is_past after j)) ≡ is_dirty o.core j
+      whole j = elim (cases_Bool (is_past after j)) [
+        | inl past ↦
+            let d : is_dirty o.core j ≡ false = sym (t.ahead j past) ∙ clean_past j past in
+            ap (λ x. x && not (is_past after j)) d ∙ sym d
+        | inr before ↦ ap (λ x. is_dirty o.core j && not x) before ∙ and_true (is_dirty o.core j)
+      ]
 
-  -- the next region may be tried
-  pub room_for_next : (r : ℕ) (shape : RegionShape) (failed : Bool) (o a : StripeSeen J) → IsAtRest o.core → o.core.events + 4194304 ≤ 4611686018427387904 → TriedAll noted r failed o a → slice_get o.core.setup.shapes r ≡ Some shape → a.core.events + 2 * shape.pages ≤ 4611686018427387904
-  room_for_next r shape failed o a rest few t is =
-      let sum = sum_step o.core.setup.shapes r shape is in
-      let most = sum_by-take-le (λ (s : RegionShape). s.pages) o.core.setup.shapes (r + 1) in
-      let bound = rest.bounded.few_pages in
-      let sofar = t.few in
-      omega (arith, sum, most, bound, sofar, few)
+quota_most : (frames stripes number : ℕ) → quota_of frames stripes number ≤ frames + 1
+quota_most frames stripes number = go (nat_lt number (frames % stripes))
+  where
+    go : (b : Bool) → cond b (frames / stripes + 1) (frames / stripes) ≤ frames + 1
+    go true = let most = div-le_self frames stripes in omega (arith, most)
+    go false = let most = div-le_self frames stripes in omega (arith, most)
 
-  pub all_failed : (r : ℕ) (shape : RegionShape) (failed : Bool) (o a b : StripeSeen J) → TriedAll noted r failed o a → slice_get o.core.setup.shapes r ≡ Some shape → TriedRegion noted r shape.pages true a b → TriedAll noted (r + 1) true o b
-  all_failed r shape failed o a b t is q = subst (λ f. TriedAll noted (r + 1) f o b) (or_true failed) (all_more r shape failed o a b t is true q)
-
-  pub all_well : (r : ℕ) (shape : RegionShape) (failed : Bool) (o a b : StripeSeen J) → TriedAll noted r failed o a → slice_get o.core.setup.shapes r ≡ Some shape → TriedRegion noted r shape.pages false a b → TriedAll noted (r + 1) failed o b
-  all_well r shape failed o a b t is q = subst (λ f. TriedAll noted (r + 1) f o b) (or_false failed) (all_more r shape failed o a b t is false q)
+-- as many entries as there may be: two for each resident page
+pub room_left : (laws : Laws) (c : Core) → IsAtRest c → 2 * left c None + 2 ≤ 4194304
+room_left laws c rest =
+    let few = at_most (λ (j : Key). is_dirty c j && is_past None j) (keys_in c) in
+    let as_many = length_keys c.pages in
+    let within = laws.knows.within rest.history c rest.stands in
+    let frames = rest.bounded.few_frames in
+    let share = quota_most c.setup.frames c.setup.stripes c.setup.number in
+    omega (arith, few, as_many, within, frames, share)

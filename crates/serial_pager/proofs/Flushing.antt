@@ -1,5 +1,5 @@
 -- Stripes whose dirty pages are written, one stripe after another.
-use Rattle.std.proofs.Common.{◌≡◌, ◌⊎◌, inl, inr, ℕ, ◌+◌, ◌<◌, ◌≤◌, Bool, true, false, ◌||◌, List, [], ◌++◌, length, Some, slice_get, slice_set, refl, sym, ap, subst, ◌∙◌, arith}
+use Rattle.std.proofs.Common.{◌≡◌, ◌⊎◌, inl, inr, ℕ, ◌+◌, ◌<◌, ◌≤◌, Bool, true, false, ◌||◌, List, [], ◌++◌, length, Some, slice_get, slice_set, refl, sym, ap, append-nil, subst, ◌∙◌, arith}
 use Rattle.std.specs.List.{list_all, list_any}
 use Rattle.std.proofs.lemmas.Bool.{cases_eq, cases_lt, or_cases, or_parts}
 use Rattle.std.proofs.lemmas.List.Folds.{list_any-append}
@@ -13,7 +13,7 @@ use Rattle.page_model.specs.Setups.{regions}
 use Rattle.serial_pager.specs.Seen.{StripeSeen}
 use Rattle.serial_pager.specs.Holdings as one
 use Rattle.serial_pager.specs.Goings.{Went}
-use Rattle.serial_pager.specs.Writings.{RoseAt, WroteBack, flushes, is_failed_write}
+use Rattle.serial_pager.specs.Writings.{RoseAt, TriesDirty, WroteBack, WroteEach, flushes, is_failed_write}
 use Rattle.serial_pager.specs.InsideSound.{Flushes, FlushesAll, SomeRose}
 use Rattle.serial_pager.proofs.Lists.{slice_set_same, slice_set_other, slice_set_length}
 use Rattle.serial_pager.proofs.Unmade.{some_is}
@@ -108,13 +108,22 @@ tells failed x y result f rose stored next (inr (t, e)) = inr (e, λ r below. st
 
 -- ---- the entries, stripe by stripe
 
-pub entries_none : {J : Type 0} (noted : J → History Entry → Type 0) (all : List (StripeSeen J)) → FlushesAll noted false all all
+-- the entries of the first stripes, and none yet of those behind them
+pub record Entries {J : Type 0} (noted : J → History Entry → Type 0) (failed : Bool) (upto : ℕ) (all now : List (StripeSeen J)) : Type 0 where
+  pub first : FlushesAll noted failed upto all now
+  pub later : (s : ℕ) → upto ≤ s → first.made s ≡ []
+
+pub entries_none : {J : Type 0} (noted : J → History Entry → Type 0) (all : List (StripeSeen J)) → Entries noted false 0 all all
 entries_none {J} noted all = record {
-  made = λ s. [];
-  went = λ s x y was is. subst (λ (z : StripeSeen J). Went noted [] x z) (some_is (sym was ∙ is)) (went_nowhere noted x);
-  pass = λ s. refl;
-  some = λ e. absurd (cc);
-  none = λ e s. refl;
+  first = record {
+    made = λ s. [];
+    went = λ s x y was is. subst (λ (z : StripeSeen J). Went noted [] x z) (some_is (sym was ∙ is)) (went_nowhere noted x);
+    pass = λ s. refl;
+    some = λ e. absurd (cc);
+    none = λ e s. refl;
+    once = λ s x below. absurd (omega (arith, below));
+  };
+  later = λ s above. refl;
 }
 
 -- the flag after a stripe
@@ -122,7 +131,13 @@ pub flag_is : (failed result next : Bool) → ((result ≡ true) × (next ≡ tr
 flag_is failed result next (inl (t, e)) = ap (λ r. failed || r) t ∙ (or_true failed ∙ sym e)
 flag_is failed result next (inr (t, e)) = ap (λ r. failed || r) t ∙ (or_false failed ∙ sym e)
 
-module _ {J : Type 0} (noted : J → History Entry → Type 0) (all now : List (StripeSeen J)) (i : ℕ) (x y : StripeSeen J) (failed result : Bool) (many : length now ≡ length all) (was : slice_get now i ≡ Some x) (f : FlushesAll noted failed all now) (w : WroteBack noted result x y) where
+module _ {J : Type 0} (noted : J → History Entry → Type 0) (all now : List (StripeSeen J)) (i : ℕ) (x y : StripeSeen J) (failed result : Bool) (many : length now ≡ length all) (was : slice_get now i ≡ Some x) (starts : slice_get all i ≡ Some x) (entries : Entries noted failed i all now) (each : WroteEach noted result x y) where
+  abbrev f : FlushesAll noted failed i all now
+  f = entries.first
+
+  abbrev w : WroteBack noted result x y
+  w = each.back
+
   abbrev made_at : (s : ℕ) → (s ≡ i) ⊎ (s ≡ i → ⊥) → List Entry
   made_at s (inl here) = w.entries ++ f.made s
   made_at s (inr other) = f.made s
@@ -150,7 +165,19 @@ module _ {J : Type 0} (noted : J → History Entry → Type 0) (all now : List (
   fails_nowhere s (inl here) d e = list_any-append is_failed_write w.entries (f.made s) ∙ (ap (λ v. v || list_any is_failed_write (f.made s)) (w.fails ∙ e) ∙ f.none d s)
   fails_nowhere s (inr other) d e = f.none d s
 
-  with_next : FlushesAll noted (failed || result) all (slice_set now i y)
+  once_at : (s : ℕ) (a : StripeSeen J) (c : (s ≡ i) ⊎ (s ≡ i → ⊥)) → s < i + 1 → slice_get all s ≡ Some a → TriesDirty a.core (made_at s c)
+  once_at s a (inl here) below e =
+      let none : f.made s ≡ [] = entries.later s (omega (arith, here)) in
+      let same_entries : w.entries ≡ w.entries ++ f.made s = sym (ap (λ es. w.entries ++ es) none ∙ append-nil w.entries) in
+      let same_stripe : x ≡ a = some_is (sym starts ∙ (ap (slice_get all) (sym here) ∙ e)) in
+      subst (λ (z : StripeSeen J). TriesDirty z.core (w.entries ++ f.made s)) same_stripe (subst (λ es. TriesDirty x.core es) same_entries each.once)
+  once_at s a (inr other) below e = f.once s a (omega (arith, below, other)) e
+
+  later_at : (s : ℕ) (c : (s ≡ i) ⊎ (s ≡ i → ⊥)) → i + 1 ≤ s → made_at s c ≡ []
+  later_at s (inl here) above = absurd (omega (arith, here, above))
+  later_at s (inr other) above = entries.later s (omega (arith, above))
+
+  abbrev with_next : FlushesAll noted (failed || result) (i + 1) all (slice_set now i y)
   with_next = record {
     made = λ s. made_at s (cases_eq s i);
     went = λ s a b e g. went_at s a b (cases_eq s i) e g;
@@ -160,7 +187,8 @@ module _ {J : Type 0} (noted : J → History Entry → Type 0) (all now : List (
       | inr here ↦ (i, omega (arith, slice_get_within now i x was, many), fails_here (cases_eq i i) here)
     ];
     none = λ e s. let parts = or_parts failed result e in fails_nowhere s (cases_eq s i) parts.0 parts.1;
+    once = λ s a below e. once_at s a (cases_eq s i) below e;
   }
 
-  pub entries_more : (next : Bool) → (failed || result) ≡ next → FlushesAll noted next all (slice_set now i y)
-  entries_more next e = subst (λ b. FlushesAll noted b all (slice_set now i y)) e with_next
+  pub entries_more : (next : Bool) → (failed || result) ≡ next → Entries noted next (i + 1) all (slice_set now i y)
+  entries_more next e = subst (λ b. Entries noted b (i + 1) all (slice_set now i y)) e (record { first = with_next; later = λ s above. later_at s (cases_eq s i) above })

@@ -41,6 +41,7 @@ made_bounded : (config : StripeConfig) (lanes : List LaneSeen) → CanMake confi
 made_bounded config lanes can = record {
   small_pages = config.layout.small_pages;
   few_faults = can.few_faults;
+  few_frames = config.layout.few_frames;
   few_regions = can.few_regions;
   few_pages = can.few_pages;
   groups = can.groups;

@@ -1,6 +1,6 @@
 -- The laws of histories that the lemmas are given, as the function `model_laws` has them.
 use Rattle.page_model.specs.Laws.{PagesAreOfStripe, CleanIsKept, SomethingIsNext, FewArePending, PendingHasLastWhy, ChosenKnows, WaitingIsAbsent}
-use Rattle.page_model.specs.Readers.{ServiceKnows, ReadersAgree, PagesShow}
+use Rattle.page_model.specs.Readers.{ServiceKnows, ReadersAgree, PagesShow, FlushKnows}
 
 abbrev pub Laws : Type 0
 Laws = record {
@@ -14,4 +14,5 @@ Laws = record {
   whys : PendingHasLastWhy;
   chosen : ChosenKnows;
   waiting : WaitingIsAbsent;
+  flush : FlushKnows;
 }

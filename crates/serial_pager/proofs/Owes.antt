@@ -115,6 +115,18 @@ module _ (c d : Core) where
       clean None = refl
       clean (Some r) = and_false r.dirty
 
+  pub written_other : (k : Key) → Writes k c d → (j : Key) → (k ≡ j → ⊥) → is_dirty d j ≡ is_dirty c j
+  written_other k w j ne = ap dirties (ap (λ rs. page_in rs j) pages ∙ (changed_other k ended (on_page k begun c.pages) j (λ r. refl) ne ∙ changed_other k begun c.pages j (λ r. refl) ne))
+    where
+      begun : Resident → Resident
+      begun r = record r { protected = true }
+
+      ended : Resident → Resident
+      ended r = record r { dirty = r.dirty && not r.protected }
+
+      pages : d.pages ≡ on_page k ended (on_page k begun c.pages)
+      pages = ap (λ (x : Core). x.pages) w.is
+
   pub unwritten_dirty : (k : Key) (f : PageFault) → FailsToWrite k c d f → (j : Key) → is_dirty d j ≡ is_dirty c j
   unwritten_dirty k f w j = elim (cases_key k j) [
     | inl kj ↦ ap (λ rs. dirties (page_in rs j)) pages ∙ (ap (λ x. dirties (page_in (on_page x begun c.pages) j)) kj ∙ (ap dirties (changed_here j begun c.pages (λ r. refl)) ∙ as_before (page_in c.pages j)))

@@ -1,5 +1,5 @@
 -- The page of a key, after a change of the resident pages.
-use Rattle.std.proofs.Common.{Bool, List, None, Option, Some, [], ap, arith, cond, false, find, inl, inr, length, not, refl, sym, true, ◌++◌, ◌∙◌, ◌∷◌, ◌≡◌, ◌<◌, ◌≤◌}
+use Rattle.std.proofs.Common.{Bool, List, None, Option, Some, [], ap, arith, cond, false, find, inl, inr, length, map, not, refl, sym, true, ◌++◌, ◌∙◌, ◌∷◌, ◌≡◌, ◌<◌, ◌≤◌}
 use Rattle.std.proofs.lemmas.Bool.{cases_Bool, cond-true, cond-false}
 use Rattle.std.specs.Option.{option_map}
 use Rattle.page_base.specs.Pages.{same}
@@ -92,3 +92,12 @@ removed_fewer k (r ∷ rs) x e = go (same r.key k) (removed_most k rs) (removed_
     go : (b : Bool) → length (without_page k rs) ≤ length rs → (page_in rs k ≡ Some x → length (without_page k rs) < length rs) → cond b (Some r) (page_in rs k) ≡ Some x → length (cond (not b) (r ∷ without_page k rs) (without_page k rs)) < length (r ∷ rs)
     go true most ih f = omega arith
     go false most ih f = let less = ih f in omega arith
+
+-- a change of one page that keeps its key keeps all keys
+pub changed_keys : (k : Key) (f : Resident → Resident) (rs : List Resident) → ((r : Resident) → (f r).key ≡ r.key) → map (λ (r : Resident). r.key) (on_page k f rs) ≡ map (λ (r : Resident). r.key) rs
+changed_keys k f [] keeps = refl
+changed_keys k f (r ∷ rs) keeps = ap (λ x. x ∷ map (λ (y : Resident). y.key) (on_page k f rs)) (head (same r.key k)) ∙ ap (λ ks. r.key ∷ ks) (changed_keys k f rs keeps)
+  where
+    head : (b : Bool) → (cond b (f r) r).key ≡ r.key
+    head true = keeps r
+    head false = refl

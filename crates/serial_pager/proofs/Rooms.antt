@@ -143,8 +143,8 @@ some_pick laws c rest room waits none =
     let next_h : next_of c.setup h ≡ serve.Room = sym reads.next ∙ room in
     let some : 0 < length (pending h) = subst (λ (ps : List Raise). 0 < length ps) rest.stands.queue waits in
     let ahead = laws.next c.setup h rest.stands.fits rest.stands.legal (home_everywhere laws c h rest.stands rest.home) some in
-    let victim_is = (ahead.room next_h).1 in
-    let pick_h : pick c ≡ Some (picked h victim_is.0) = reads.pick ∙ ap (option_map (picked h)) victim_is.1 in
+    let found_is = (ahead.room next_h).1 in
+    let pick_h : pick c ≡ Some (picked h found_is.0) = reads.pick ∙ ap (option_map (picked h)) found_is.1 in
     cc
 
 -- while faults wait there is something to do

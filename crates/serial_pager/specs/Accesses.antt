@@ -1,5 +1,5 @@
 -- What an access makes a stripe do, and how it fails.
-use Rattle.std.specs.Prelude.{◌≡◌, Bool, true, false, not, ◌&&◌, ◌⊎◌}
+use Rattle.std.specs.Prelude.{◌≡◌, ℕ, List, Bool, true, false, not, ◌&&◌, ◌⊎◌}
 use Rattle.histories.specs.Histories.{History}
 use Rattle.page_base.specs.declared.keys.Key.{Key}
 use Rattle.page_base.specs.declared.keys.Why.{Why}
@@ -9,11 +9,11 @@ use Rattle.page_base.specs.Pages.{same}
 use Rattle.page_model.specs.declared.entry.Cause.{Cause}
 use Rattle.page_model.specs.declared.entry.Cause.TheVariants.{Pressure}
 use Rattle.page_model.specs.declared.entry.Entry.{Entry}
-use Rattle.page_model.specs.declared.entry.Entry.TheVariants.{Raised, StartRead, Filled, Opened, Dropped, ReadFailed, WriteFailed, StartWrite, Evicted, Written}
+use Rattle.page_model.specs.declared.entry.Entry.TheVariants.{Load, Save, Raised, StartRead, Filled, Opened, Dropped, ReadFailed, WriteFailed, StartWrite, Evicted, Written}
 use Rattle.page_model.specs.Core.{Core}
 use Rattle.serial_pager.specs.declared.fault.PageFault.{PageFault}
 use Rattle.serial_pager.specs.Seen.{StripeSeen}
-use Rattle.serial_pager.specs.Holdings.{count_at}
+use Rattle.serial_pager.specs.Holdings.{count_at, owes, owes_with, is_for_store}
 use Rattle.serial_pager.specs.Goings.{WentTo}
 
 abbrev pub is_read : Why → Bool
@@ -58,3 +58,19 @@ module _ {J : Type 0} where
   abbrev pub AccessFails : (has_noted : J → History Entry → Type 0) → Key → (reasons : Why → Bool) → (may_owe : Key → Bool) → (old new : StripeSeen J) → PageFault → Type 0
   AccessFails has_noted k reasons may_owe old new f =
       ReadFails has_noted k reasons old new f ⊎ WriteFails has_noted k reasons may_owe old new f
+
+  -- a load of these bytes of page k, behind what served it
+  abbrev pub Loads : (has_noted : J → History Entry → Type 0) → Key → (place : ℕ) → List ℕ → (old new : StripeSeen J) → Type 0
+  Loads has_noted k place bytes = WentTo has_noted (serves k is_read) (Load k place bytes)
+
+  -- a store of these bytes to page k, behind what served it
+  abbrev pub Stores : (has_noted : J → History Entry → Type 0) → Key → (place : ℕ) → List ℕ → (old new : StripeSeen J) → Type 0
+  Stores has_noted k place bytes = WentTo has_noted (serves k is_for_store) (Save k place bytes)
+
+  -- a load of page k failed
+  abbrev pub LoadFails : (has_noted : J → History Entry → Type 0) → Key → (old new : StripeSeen J) → PageFault → Type 0
+  LoadFails has_noted k old new f = AccessFails has_noted k is_read (owes old.core) old new f
+
+  -- a store to page k failed
+  abbrev pub StoreFails : (has_noted : J → History Entry → Type 0) → Key → (old new : StripeSeen J) → PageFault → Type 0
+  StoreFails has_noted k old new f = AccessFails has_noted k is_for_store (owes_with old.core k) old new f

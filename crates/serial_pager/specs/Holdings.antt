@@ -1,9 +1,10 @@
 -- What the pages of a stripe hold while its lanes are home, which of them may have to be written, and what its lanes count.
-use Rattle.std.specs.Prelude.{◌≡◌, ℕ, ◌≤◌, Bool, true, false, ◌||◌, if◌then◌else◌, List, Option, Some, None}
+use Rattle.std.specs.Prelude.{◌≡◌, ℕ, ◌+◌, ◌≤◌, Bool, true, false, ◌||◌, if◌then◌else◌, List, length, slice_range, Option, Some, None, IfSome, option_map}
 use Rattle.page_base.specs.declared.keys.Key.{Key}
 use Rattle.page_base.specs.declared.keys.Why.{Why}
 use Rattle.page_base.specs.declared.keys.Why.TheVariants.{Write, Protected}
 use Rattle.page_base.specs.Lanes.{told_at}
+use Rattle.page_base.specs.ListSeen.{spliced}
 use Rattle.page_base.specs.Pages.{same}
 use Rattle.page_model.specs.Setups.{has_page, is_told}
 use Rattle.page_model.specs.Core.{Core, Resident, LanePlace, Home, RegionSeen, region_at, page_at, is_dirty, why_pending}
@@ -61,6 +62,18 @@ CountsGrow old new = (r : ℕ) → count_at old r ≤ count_at new r
 -- each page of the stripe holds what it held
 abbrev pub HoldsSame : (old new : Core) → Type 0
 HoldsSame old new = (k : Key) → has_page old.setup k ≡ true → held new k ≡ held old k
+
+-- each page but one holds what it held
+abbrev pub HoldsOthers : Key → (old new : Core) → Type 0
+HoldsOthers k old new = (j : Key) → has_page old.setup j ≡ true → (j ≡ k → ⊥) → held new j ≡ held old j
+
+-- these are the bytes that a page holds from a place on, where it is known what it holds
+abbrev pub AreBytesAt : Option (List ℕ) → (place : ℕ) → List ℕ → Type 0
+AreBytesAt page place bytes = IfSome page (λ all. bytes ≡ slice_range all place (place + length bytes))
+
+-- what a page holds with these bytes stored over it from a place on
+abbrev pub stored_over : Option (List ℕ) → (place : ℕ) → List ℕ → Option (List ℕ)
+stored_over page place bytes = option_map (λ all. spliced all place bytes) page
 
 -- no page of the region is dirty
 abbrev pub IsClean : Core → ℕ → Type 0

@@ -1,8 +1,16 @@
--- How a stripe and its journal went on by entries that are named.
-use Rattle.std.specs.Prelude.{◌≡◌, true, Bool, List}
+-- How a stripe and its journal went on in one service.
+use Rattle.std.specs.Prelude.{◌≡◌, ℕ, true, false, Bool, List, [], ◌∷◌}
 use Rattle.std.specs.List.{list_all}
 use Rattle.histories.specs.Histories.{History}
+use Rattle.page_base.specs.declared.keys.Key.{Key}
+use Rattle.page_base.specs.declared.keys.Why.{Why}
+use Rattle.page_model.specs.declared.entry.Cause.{Cause}
+use Rattle.page_model.specs.declared.entry.Cause.TheVariants.{Flush}
 use Rattle.page_model.specs.declared.entry.Entry.{Entry}
+use Rattle.page_model.specs.declared.entry.Entry.TheVariants.{StartRead, Filled, ReadFailed, StartWrite, Written, WriteFailed}
+use Rattle.page_model.specs.Core.{is_dirty}
+use Rattle.serial_pager.specs.declared.fault.PageFault.{PageFault}
+use Rattle.serial_pager.specs.Accesses.{serves, AccessFails}
 use Rattle.serial_pager.specs.Seen.{StripeSeen}
 use Rattle.serial_pager.specs.Goings.{Went}
 
@@ -12,3 +20,40 @@ module _ {J : Type 0} where
     pub entries : List Entry
     pub pass : list_all passes entries ≡ true
     pub went : Went has_noted entries old new
+
+  -- By entries that serve an access of page k, whatever it is raised for.
+  abbrev pub WentServing : (has_noted : J → History Entry → Type 0) → Key → (old new : StripeSeen J) → Type 0
+  WentServing has_noted k old new = (reasons : Why → Bool) → WentBy has_noted (serves k reasons) old new
+
+  -- By entries that serve an access of page k, which is raised for this reason among others.
+  abbrev pub WentRaising : (has_noted : J → History Entry → Type 0) → Key → Why → (old new : StripeSeen J) → Type 0
+  WentRaising has_noted k why old new = (reasons : Why → Bool) → reasons why ≡ true → WentBy has_noted (serves k reasons) old new
+
+  -- By entries that serve an access of whatever page.
+  abbrev pub WentServingAny : (has_noted : J → History Entry → Type 0) → (old new : StripeSeen J) → Type 0
+  WentServingAny has_noted old new = (k : Key) → WentServing has_noted k old new
+
+  -- A service failed, and with it the access of page k that it was for.
+  abbrev pub ServiceFails : (has_noted : J → History Entry → Type 0) → Key → (old new : StripeSeen J) → PageFault → Type 0
+  ServiceFails has_noted k old new f = (reasons : Why → Bool) → AccessFails has_noted k reasons (is_dirty old.core) old new f
+
+  -- A page was read in.
+  abbrev pub ReadsIn : (has_noted : J → History Entry → Type 0) → (old new : StripeSeen J) → Type 0
+  ReadsIn has_noted old new = (k : Key) × Went has_noted (Filled k ∷ StartRead k ∷ []) old new
+
+  -- A page's read failed.
+  abbrev pub FailsToReadIn : (has_noted : J → History Entry → Type 0) → (old new : StripeSeen J) → PageFault → Type 0
+  FailsToReadIn has_noted old new f = Went has_noted (ReadFailed f.key f.faults ∷ StartRead f.key ∷ []) old new
+
+  -- Page k was written back.
+  abbrev pub WritesOut : (has_noted : J → History Entry → Type 0) → Key → Cause → (old new : StripeSeen J) → Type 0
+  WritesOut has_noted k why old new = (at : ℕ) × (bytes : List ℕ) × Went has_noted (Written k at bytes ∷ StartWrite k why ∷ []) old new
+
+  -- A write of page k failed.
+  abbrev pub FailsToWriteOut : (has_noted : J → History Entry → Type 0) → Key → Cause → (old new : StripeSeen J) → PageFault → Type 0
+  FailsToWriteOut has_noted k why old new f = Went has_noted (WriteFailed k f.faults ∷ StartWrite k why ∷ []) old new
+
+  -- A write of page k for a flush failed, or the page was written back.
+  abbrev pub TriesToWrite : (has_noted : J → History Entry → Type 0) → Key → (failed : Bool) → (old new : StripeSeen J) → Type 0
+  TriesToWrite has_noted k true old new = (f : PageFault) × FailsToWriteOut has_noted k Flush old new f
+  TriesToWrite has_noted k false old new = WritesOut has_noted k Flush old new

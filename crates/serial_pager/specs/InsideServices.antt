@@ -70,6 +70,11 @@ pub record FailsToWrite (k : Key) (c d : Core) (f : PageFault) : Type 0 where
   pub rose : Rose (count_at c k.region) lane.count
   pub is : d ≡ step.write_failed (step.start_write c k) k lane
 
+-- a write of the page failed, or the page was written back
+abbrev pub Tries : Key → (failed : Bool) → (c d : Core) → Type 0
+Tries k true c d = (f : PageFault) × FailsToWrite k c d f
+Tries k false c d = Writes k c d
+
 -- a page is picked to leave, and may have to be written before
 pub record Picks (c : Core) (k : Key) : Type 0 where
   pub room : next c ≡ serve.Room

@@ -1,11 +1,10 @@
 -- What ties the fields of a pager, and what writing its stripes' dirty pages one after another leaves.
-use Rattle.std.specs.Prelude.{◌≡◌, ℕ, ◌+◌, ◌*◌, ◌^◌, ◌<◌, ◌≤◌, Bool, true, false, List, ◌++◌, length, reverse, slice_get, Some}
+use Rattle.std.specs.Prelude.{◌≡◌, ℕ, ◌+◌, ◌*◌, ◌^◌, ◌<◌, ◌≤◌, Bool, true, false, List, ◌++◌, length, map, reverse, slice_get, Some}
 use Rattle.std.specs.List.{list_all, list_any}
 use Rattle.page_base.specs.Lanes.{LaneSeen}
 use Rattle.page_base.specs.declared.keys.Key.{Key}
 use Rattle.page_base.specs.declared.keys.RegionShape.{RegionShape}
 use Rattle.page_model.specs.Core.{Core}
-use Rattle.stripe_core.specs.declared.config.StripeConfig.{StripeConfig}
 use Rattle.serial_pager.specs.Seen.{StripeSeen}
 use Rattle.histories.specs.Histories.{History}
 use Rattle.page_model.specs.declared.entry.Entry.{Entry}
@@ -13,7 +12,7 @@ use Rattle.page_model.specs.Setups.{regions}
 use Rattle.serial_pager.specs.Goings.{Went}
 use Rattle.serial_pager.specs.Holdings as one
 use Rattle.serial_pager.specs.Holdings.{HoldsSame, CountsGrow}
-use Rattle.serial_pager.specs.Writings.{flushes, is_failed_write, RoseAt, IsTried}
+use Rattle.serial_pager.specs.Writings.{flushes, is_failed_write, RoseAt, IsTried, TriesDirty}
 use Rattle.serial_pager.specs.Rests.{IsAtRest}
 use Rattle.serial_pager.specs.Pagers.{PagerSeen, AreLanesOf}
 
@@ -26,14 +25,15 @@ pub record IsStripe {J : Type 0} (p : PagerSeen J) (s : ℕ) (core : Core) : Typ
   pub shapes : core.setup.shapes ≡ p.shapes
   pub few : core.events ≤ p.spent * 2 ^ 16
 
--- stripe s may write its dirty pages
-pub record MayFlush (c : StripeConfig) (size s : ℕ) (core : Core) : Type 0 where
+-- the stripe may write its dirty pages
+pub record MayFlush (size : ℕ) (core : Core) : Type 0 where
   pub rest : IsAtRest core
   pub few : core.events + 2 ^ 22 ≤ 2 ^ 62
   pub page_size : core.setup.page_size ≡ size
-  pub stripes : c.layout.stripes ≡ core.setup.stripes
-  pub number : core.setup.number ≡ s
-  pub shapes : c.shapes.items ≡ core.setup.shapes
+
+-- each of these stripes may write its dirty pages
+abbrev pub MayFlushEach : {J : Type 0} → (size : ℕ) → List (StripeSeen J) → Type 0
+MayFlushEach {J} size stripes = (s : ℕ) (x : StripeSeen J) → slice_get stripes s ≡ Some x → MayFlush size x.core
 
 -- and has written them
 pub record Flushes {J : Type 0} (x y : StripeSeen J) : Type 0 where
@@ -45,13 +45,26 @@ pub record Flushes {J : Type 0} (x y : StripeSeen J) : Type 0 where
   pub counts : CountsGrow x.core y.core
   pub tried : (r : ℕ) → r < regions x.core.setup → IsTried x.core y.core r
 
--- each of these stripes has, by these entries: a write of some stripe failed, or none did
-pub record FlushesAll {J : Type 0} (has_noted : J → History Entry → Type 0) (failed : Bool) (old new : List (StripeSeen J)) : Type 0 where
+-- each of these stripes has
+abbrev pub FlushesEach : {J : Type 0} → (old new : List (StripeSeen J)) → Type 0
+FlushesEach {J} old new = (s : ℕ) (x y : StripeSeen J) → slice_get old s ≡ Some x → slice_get new s ≡ Some y → Flushes x y
+
+-- what these stripes' journals were made with
+abbrev pub all_made : {J M : Type 0} → (J → M) → List (StripeSeen J) → List M
+all_made {J} made_with stripes = map (λ (x : StripeSeen J). made_with x.journal) stripes
+
+-- the lanes of each of these stripes tell what its pages hold
+abbrev pub AreStored : {J : Type 0} → List (StripeSeen J) → Type 0
+AreStored {J} stripes = (s : ℕ) (x : StripeSeen J) → slice_get stripes s ≡ Some x → (r : ℕ) → r < regions x.core.setup → one.IsStored x.core r
+
+-- each of the first `upto` of them has, by these entries, each dirty page once: a write of some stripe failed, or none did
+pub record FlushesAll {J : Type 0} (has_noted : J → History Entry → Type 0) (failed : Bool) (upto : ℕ) (old new : List (StripeSeen J)) : Type 0 where
   pub made : ℕ → List Entry
   pub went : (s : ℕ) (x y : StripeSeen J) → slice_get old s ≡ Some x → slice_get new s ≡ Some y → Went has_noted (made s) x y
   pub pass : (s : ℕ) → list_all flushes (made s) ≡ true
   pub some : failed ≡ true → (s : ℕ) × (s < length old) × (list_any is_failed_write (made s) ≡ true)
   pub none : failed ≡ false → (s : ℕ) → list_any is_failed_write (made s) ≡ false
+  pub once : (s : ℕ) (x : StripeSeen J) → s < upto → slice_get old s ≡ Some x → TriesDirty x.core (made s)
 
 -- some lane of some stripe counts more faults than before
 pub record SomeRose {J : Type 0} (old new : List (StripeSeen J)) : Type 0 where

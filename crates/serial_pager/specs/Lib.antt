@@ -7,5 +7,6 @@ pub mod Accesses
 pub mod Writings
 pub mod InsideServices
 pub mod Pagers
+pub mod Returned
 pub mod Sound
 pub mod InsideSound

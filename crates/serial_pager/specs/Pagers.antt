@@ -20,10 +20,11 @@ use Rattle.serial_pager.specs.declared.fault.PageFault.{PageFault}
 use Rattle.serial_pager.specs.declared.pager.PagerConfig.{PagerConfig}
 use Rattle.serial_pager.specs.Seen.{StripeSeen}
 use Rattle.serial_pager.specs.Holdings as stripe
+use Rattle.serial_pager.specs.Accesses.{Loads, LoadFails, Stores, StoreFails}
 use Rattle.serial_pager.specs.Goings.{Went}
-use Rattle.serial_pager.specs.Writings.{flushes, is_failed_write}
+use Rattle.serial_pager.specs.Writings.{flushes, is_failed_write, TriesDirty}
 
--- the stripes in order of number; `spent` counts the pieces that were loaded or stored, and writing all dirty pages as 64 of them
+-- the stripes in order of number; `spent` counts the pieces that were loaded or stored, and writing all dirty pages as MOST_STRIPES of them
 pub record PagerSeen (J : Type 0) : Type 0 where
   pub page_size : ℕ
   pub shapes : List RegionShape  -- by the region's number
@@ -146,6 +147,22 @@ module _ {J : Type 0} where
     pub is : new.stripes ≡ slice_set old.stripes s after
     pub does : Does before after
 
+  -- the page's stripe loaded these bytes of it, and the others are as they were
+  abbrev pub LoadsPiece : (has_noted : J → History Entry → Type 0) → Key → (place : ℕ) → List ℕ → (old new : PagerSeen J) → Type 0
+  LoadsPiece has_noted k place bytes old new = OnStripe (stripe_at old k) (Loads has_noted k place bytes) old new
+
+  -- the page's stripe stored these bytes to it, and the others are as they were
+  abbrev pub StoresPiece : (has_noted : J → History Entry → Type 0) → Key → (place : ℕ) → List ℕ → (old new : PagerSeen J) → Type 0
+  StoresPiece has_noted k place bytes old new = OnStripe (stripe_at old k) (Stores has_noted k place bytes) old new
+
+  -- the page's stripe failed to load it, and the others are as they were
+  abbrev pub FailsToLoad : (has_noted : J → History Entry → Type 0) → Key → (old new : PagerSeen J) → PageFault → Type 0
+  FailsToLoad has_noted k old new f = OnStripe (stripe_at old k) (λ x y. LoadFails has_noted k x y f) old new
+
+  -- the page's stripe failed to store to it, and the others are as they were
+  abbrev pub FailsToStore : (has_noted : J → History Entry → Type 0) → Key → (old new : PagerSeen J) → PageFault → Type 0
+  FailsToStore has_noted k old new f = OnStripe (stripe_at old k) (λ x y. StoreFails has_noted k x y f) old new
+
   -- in each stripe these entries were made, the newest first
   abbrev pub WentAll : (has_noted : J → History Entry → Type 0) → (made : ℕ → List Entry) → (old new : PagerSeen J) → Type 0
   WentAll has_noted made old new = (s : ℕ) (x y : StripeSeen J) → slice_get old.stripes s ≡ Some x → slice_get new.stripes s ≡ Some y → Went has_noted (made s) x y
@@ -154,17 +171,34 @@ module _ {J : Type 0} where
   abbrev pub journals_made : {M : Type 0} → (J → M) → PagerSeen J → List M
   journals_made made_with p = map (λ (x : StripeSeen J). made_with x.journal) p.stripes
 
-  -- every stripe wrote its dirty pages, by writes for a flush alone: some write failed, or none did
+  -- every stripe wrote its dirty pages, by writes for a flush alone, each page once: some write failed, or none did
   pub record WroteDirty (has_noted : J → History Entry → Type 0) (failed : Bool) (old new : PagerSeen J) : Type 0 where
     pub made : ℕ → List Entry  -- by the stripe's number
     pub went : WentAll has_noted made old new
     pub pass : (s : ℕ) → list_all flushes (made s) ≡ true
     pub some : failed ≡ true → (s : ℕ) × (s < length old.stripes) × (list_any is_failed_write (made s) ≡ true)
     pub none : failed ≡ false → (s : ℕ) → list_any is_failed_write (made s) ≡ false
+    pub once : (s : ℕ) (x : StripeSeen J) → slice_get old.stripes s ≡ Some x → TriesDirty x.core (made s)
 
   -- each page holds what it held
   abbrev pub HoldsSame : (old new : PagerSeen J) → Type 0
   HoldsSame old new = (k : Key) → has_page old k ≡ true → held new k ≡ held old k
+
+  -- each page but one holds what it held
+  abbrev pub HoldsOthers : Key → (old new : PagerSeen J) → Type 0
+  HoldsOthers k old new = (j : Key) → has_page old j ≡ true → (j ≡ k → ⊥) → held new j ≡ held old j
+
+  -- a page that needn't be written is told by its lane as it is held
+  abbrev pub KeepsUnowed : PagerSeen J → Type 0
+  KeepsUnowed p = (k : Key) → has_page p k ≡ true → owes p k ≡ false → IfSome (held p k) (λ bytes. kept p k ≡ Some bytes)
+
+  -- for each stripe's lane of each region
+  abbrev pub ForEachLane : PagerSeen J → ((stripe region : ℕ) → Type 0) → Type 0
+  ForEachLane p Holds = (s r : ℕ) → s < length p.stripes → r < length p.shapes → Holds s r
+
+  -- for some stripe's lane of some region
+  abbrev pub ForSomeLane : PagerSeen J → ((stripe region : ℕ) → Type 0) → Type 0
+  ForSomeLane p Holds = (s : ℕ) × (r : ℕ) × (s < length p.stripes) × (r < length p.shapes) × Holds s r
 
   -- no lane's count fell
   abbrev pub CountsGrow : (old new : PagerSeen J) → Type 0
@@ -190,6 +224,12 @@ module _ {J : Type 0} where
   -- or a write of one of them failed
   abbrev pub IsTried : (old new : PagerSeen J) → (stripe region : ℕ) → Type 0
   IsTried old new s r = RoseAt old new s r ⊎ IsKept new s r
+
+  -- the stripes' lanes, by these rows, tell of each page what the pager's do
+  abbrev pub TellsKept : PagerSeen J → List (List LaneSeen) → Type 0
+  TellsKept p rows =
+      (k : Key) (row : List LaneSeen) → has_page p k ≡ true → slice_get rows (stripe_at p k) ≡ Some row
+      → told_by (slice_get row k.region) k.page ≡ kept p k
 
   pub record AreRowsOf (p : PagerSeen J) (rows : List (List LaneSeen)) : Type 0 where
     pub count : length rows ≡ length p.stripes

@@ -2,6 +2,7 @@
 use Rattle.std.specs.Prelude.{◌≡◌, ℕ, ◌<◌, ◌≤◌, true, false, List, [], slice_get, Some, sum_by}
 use Rattle.histories.specs.Histories.{History}
 use Rattle.page_base.specs.declared.keys.RegionShape.{RegionShape}
+use Rattle.page_base.specs.declared.limits.TheConstants.{MOST_PAGE_SIZE, MOST_FRAMES, MOST_FAULTS, MOST_REGIONS, MOST_PAGES}
 use Rattle.page_base.specs.Lanes.{LaneSeen}
 use Rattle.page_model.specs.declared.entry.Entry.{Entry}
 use Rattle.page_model.specs.Setups.{Setup, regions}
@@ -13,10 +14,11 @@ use Rattle.stripe_core.specs.Configs.{setup_of, CanMake}
 
 -- the bounds that a stripe is made within
 pub record IsBounded (s : Setup) : Type 0 where
-  pub small_pages : s.page_size ≤ 1048576
-  pub few_faults : s.faults ≤ 4096
-  pub few_regions : regions s ≤ 64
-  pub few_pages : sum_by (λ (shape : RegionShape). shape.pages) s.shapes ≤ 1048576
+  pub small_pages : s.page_size ≤ MOST_PAGE_SIZE
+  pub few_faults : s.faults ≤ MOST_FAULTS
+  pub few_frames : s.frames ≤ MOST_FRAMES
+  pub few_regions : regions s ≤ MOST_REGIONS
+  pub few_pages : sum_by (λ (shape : RegionShape). shape.pages) s.shapes ≤ MOST_PAGES
   pub groups : (r : ℕ) (shape : RegionShape) → slice_get s.shapes r ≡ Some shape → 1 ≤ shape.group
 
 -- the stripe stands for a history, each lane is home, and no region is closing
@@ -34,9 +36,3 @@ pub record IsFresh (c : Core) : Type 0 where
   pub can : CanMake config lanes
   pub is : c ≡ fresh (setup_of config lanes)
   pub stands : StandsFor [] c
-
--- the configuration names the pages that the stripe has
-pub record IsConfigOf (config : StripeConfig) (s : Setup) : Type 0 where
-  pub shapes : config.shapes.items ≡ s.shapes
-  pub stripes : config.layout.stripes ≡ s.stripes
-  pub number : config.number ≡ s.number

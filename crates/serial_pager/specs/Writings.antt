@@ -1,13 +1,18 @@
 -- What writing all dirty pages makes a stripe do.
-use Rattle.std.specs.Prelude.{◌≡◌, ℕ, ◌⊎◌, Bool, true, false, List}
-use Rattle.std.specs.List.{list_all, list_any}
+use Rattle.std.specs.Prelude.{◌≡◌, ℕ, ◌<◌, ◌⊎◌, Bool, true, false, List, [], ◌∷◌}
+use Rattle.std.specs.Bool.{⊤}
+use Rattle.std.specs.List.{AllByRecursion, list_all, list_any}
 use Rattle.histories.specs.Histories.{History}
+use Rattle.page_base.specs.declared.keys.Key.{Key}
+use Rattle.page_base.specs.KeyOrder.{is_below}
 use Rattle.page_base.specs.Lanes.{Rose}
 use Rattle.page_model.specs.declared.entry.Cause.{Cause}
 use Rattle.page_model.specs.declared.entry.Cause.TheVariants.{Flush}
 use Rattle.page_model.specs.declared.entry.Entry.{Entry}
 use Rattle.page_model.specs.declared.entry.Entry.TheVariants.{WriteFailed, StartWrite, Written}
-use Rattle.page_model.specs.Core.{Core}
+use Rattle.page_model.specs.Core.{Core, is_dirty}
+use Rattle.page_model.specs.Residents.{is_in}
+use Rattle.page_model.specs.Setups.{regions}
 use Rattle.serial_pager.specs.Seen.{StripeSeen}
 use Rattle.serial_pager.specs.Holdings.{count_at, IsStored}
 use Rattle.serial_pager.specs.Goings.{Went}
@@ -28,12 +33,33 @@ abbrev pub is_failed_write : Entry → Bool
 is_failed_write (WriteFailed k n) = true
 is_failed_write e = false
 
+-- the pages that these entries begin to write, the newest first
+abbrev pub tries : List Entry → List Key
+tries [] = []
+tries ((StartWrite k why) ∷ es) = k ∷ tries es
+tries (e ∷ es) = tries es
+
+-- each of these keys is above all those behind it
+abbrev pub Falls : List Key → Type 0
+Falls [] = ⊤
+Falls (k ∷ ks) = AllByRecursion (λ (j : Key). is_below j k ≡ true) ks × Falls ks
+
+-- of these entries, the newest first, each dirty page of the stripe is written or tried once, and no other, in rising order of key
+pub record TriesDirty (old : Core) (es : List Entry) : Type 0 where
+  pub rising : Falls (tries es)
+  pub each : (k : Key) → is_in k (tries es) ≡ is_dirty old k
+
 -- a stripe wrote its dirty pages: by writes for a flush alone, of which one failed or none did
 pub record WroteBack {J : Type 0} (has_noted : J → History Entry → Type 0) (failed : Bool) (old new : StripeSeen J) : Type 0 where
   pub entries : List Entry
   pub pass : list_all flushes entries ≡ true
   pub fails : list_any is_failed_write entries ≡ failed
   pub went : Went has_noted entries old new
+
+-- and each dirty page once
+pub record WroteEach {J : Type 0} (has_noted : J → History Entry → Type 0) (failed : Bool) (old new : StripeSeen J) : Type 0 where
+  pub back : WroteBack has_noted failed old new
+  pub once : TriesDirty old.core back.entries
 
 -- the region's lane counts more faults than before
 abbrev pub RoseAt : (old new : Core) → ℕ → Type 0
@@ -42,3 +68,11 @@ RoseAt old new r = Rose (count_at old r) (count_at new r)
 -- a region's pages are all written, or a write of one failed
 abbrev pub IsTried : (old new : Core) → ℕ → Type 0
 IsTried old new r = RoseAt old new r ⊎ IsStored new r
+
+-- each region's pages are all written, or a write of one failed
+abbrev pub TriesEach : (old new : Core) → Type 0
+TriesEach old new = (r : ℕ) → r < regions old.setup → IsTried old new r
+
+-- each region's pages are all written, and its lane tells what they hold
+abbrev pub StoresEach : (old new : Core) → Type 0
+StoresEach old new = (r : ℕ) → r < regions old.setup → IsStored new r

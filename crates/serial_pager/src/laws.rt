@@ -1,8 +1,8 @@
 //! What the proofs of this crate know of every history of a stripe.
 ghost use Rattle.page_model.specs.Laws.{PagesAreOfStripe, CleanIsKept, SomethingIsNext, FewArePending, PendingHasLastWhy, ChosenKnows, WaitingIsAbsent};
-ghost use Rattle.page_model.specs.Readers.{ServiceKnows, ReadersAgree, PagesShow};
+ghost use Rattle.page_model.specs.Readers.{ServiceKnows, ReadersAgree, PagesShow, FlushKnows};
 
-use page_model::events::{pages_show, readers_agree, service_knows};
+use page_model::events::{flush_knows, pages_show, readers_agree, service_knows};
 use page_model::laws::{
     chosen_knows, clean_is_kept, few_are_pending, pages_are_of_stripe, pending_has_last_why,
     something_is_next, waiting_is_absent,
@@ -21,6 +21,7 @@ pub(crate) fn model_laws()
     ensures whys { PendingHasLastWhy }
     ensures chosen { ChosenKnows }
     ensures waiting { WaitingIsAbsent }
+    ensures flush { FlushKnows }
 {
     service_knows();
     readers_agree();
@@ -32,4 +33,5 @@ pub(crate) fn model_laws()
     pending_has_last_why();
     chosen_knows();
     waiting_is_absent();
+    flush_knows();
 }

@@ -14,18 +14,10 @@
 //! whatever stripe they are in.
 #![tactic(auto)]
 
-mod accesses;
 mod fault;
 mod laws;
 mod pager;
-#[cfg(test)]
-mod pager_tests;
-mod paging;
-mod serving;
 mod stripe;
-#[cfg(test)]
-mod tests;
-mod writing;
 
 pub use fault::PageFault;
 pub use page_base::Key;

@@ -3,11 +3,11 @@
 //! What must stay true when this file is changed: stripe s of the list was made as stripe s of the layout, with the shapes of
 //! all regions; and each piece makes at most 2^16 entries, so that no stripe comes to 2^62 of them (`specs/InsideSound.antt`).
 ghost use Rattle.std.specs.Prelude.{◌≡◌, ◌≤◌, ◌+◌, ℕ, true, [], ◌++◌, length, map, reverse, slice_get, Some, vec_len, vec_capacity, IfOk, IfErr};
-ghost use Rattle.page_base.specs.declared.keys.Key.{Key};
-ghost use Rattle.page_model.specs.Setups.{told_by};
-ghost use Rattle.serial_pager.specs.Pagers.{rows_by, rows_of, CanOpen, IsOpened, AreRowsOf, has_page, stripe_at, kept};
+ghost use Rattle.serial_pager.specs.Pagers.{rows_by, rows_of, CanOpen, IsOpened, AreRowsOf, TellsKept};
 ghost use Rattle.serial_pager.specs.Rests.{IsAtRest};
 ghost use Rattle.serial_pager.specs.InsideSound.{HandsBack};
+
+mod calls;
 
 use crate::laws::model_laws;
 use crate::stripe::SerialStripe;
@@ -159,7 +159,7 @@ impl<S: Store, J: Journal> SerialPager<S, J> {
     /// takes no memory.
     pub fn into_parts(self) -> (LaneSet<S>, List<J>)
         ensures lanes { AreRowsOf self (rows_of S.seen result.0) }
-        ensures told { (k : Key) (row : _) → has_page self k ≡ true → slice_get (rows_of S.seen result.0) (stripe_at self k) ≡ Some row → told_by (slice_get row k.region) k.page ≡ kept self k }
+        ensures told { TellsKept self (rows_of S.seen result.0) }
         ensures journals { result.1.items ≡ map (λ x. x.journal) self.stripes }
     {
         model_laws();

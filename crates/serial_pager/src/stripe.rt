@@ -2,15 +2,17 @@
 //!
 //! What must stay true when this file is changed: each event of the stripe is noted in the journal, in order, as made by
 //! owner 0.
-ghost use Rattle.std.specs.Prelude.{◌≡◌, ℕ, ◌<◌, false, length, slice_get, Some};
-ghost use Rattle.histories.specs.Histories.{History};
+ghost use Rattle.std.specs.Prelude.{◌≡◌, ℕ, ◌<◌, false, length};
 ghost use Rattle.page_base.specs.declared.keys.Key.{Key};
-ghost use Rattle.page_model.specs.declared.entry.Entry.{Entry};
-ghost use Rattle.page_model.specs.Readers.{IsHere};
 ghost use Rattle.page_model.specs.Setups.{regions, base_of, first_count};
-ghost use Rattle.page_model.specs.Stands.{StandsFor, HomeLane};
 ghost use Rattle.serial_pager.specs.Holdings.{held, owes, count_at};
 ghost use Rattle.serial_pager.specs.Rests.{IsAtRest, IsFresh};
+ghost use Rattle.serial_pager.specs.Returned.{AreHere};
+ghost use Rattle.stripe_core.specs.Standing.{AreHomeLanes};
+
+mod accesses;
+mod serving;
+mod writing;
 
 use page_base::List;
 use page_model::Journal;
@@ -50,8 +52,8 @@ impl<S: Store, J: Journal> SerialStripe<S, J> {
     pub fn into_parts(self) -> (List<S>, J)
         requires rest { IsAtRest self.core }
         ensures count { length result.0.items ≡ regions self.core.setup }
-        ensures lanes { (r : ℕ) (lane : S) → slice_get result.0.items r ≡ Some lane → IsHere self.core r (S.seen lane) }
-        ensures stands { (h : History Entry) → StandsFor h self.core → (r : ℕ) (lane : S) → slice_get result.0.items r ≡ Some lane → HomeLane self.core.setup h r (S.seen lane) }
+        ensures lanes { AreHere S.seen self.core result.0.items }
+        ensures stands { AreHomeLanes S.seen self.core result.0.items }
         ensures journal { result.1 ≡ self.journal }
     {
         let SerialStripe { stripe, journal } = self;

@@ -199,7 +199,7 @@ returns-clause-made g c =
     let is : q.stripes ≡ slice_set p.stripes s y = ap (λ v. slice_set v.stripes s y) c.self.view_is in
     let shapes : q.shapes ≡ p.shapes = ap (λ v. v.shapes) c.self.view_is in
     let e = c.load.ensures in
-    journals_same p q s x y t.was is shapes g.J.Journal.made_with e.made
+    journals_same p q s x y t.was is shapes g.J.Journal.made_with (ap (λ f. f.journal) e.fixed)
 
 pub returns-clause-held : goal.returns-clause-held
 returns-clause-held g c =

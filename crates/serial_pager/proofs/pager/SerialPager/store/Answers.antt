@@ -210,7 +210,7 @@ returns-clause-made g c =
     let is : q.stripes ≡ slice_set p.stripes s y = ap (λ v. slice_set v.stripes s y) c.self.view_is in
     let shapes : q.shapes ≡ p.shapes = ap (λ v. v.shapes) c.self.view_is in
     let e = c.store.ensures in
-    journals_same p q s x y t.was is shapes g.J.Journal.made_with e.made
+    journals_same p q s x y t.was is shapes g.J.Journal.made_with (ap (λ f. f.journal) e.fixed)
 
 pub returns-clause-untouched : goal.returns-clause-untouched
 returns-clause-untouched g c =

@@ -1,4 +1,5 @@
 use Rattle.std.proofs.Common.{◌≡◌, ℕ, ◌+◌, ◌<◌, length, map, Some, slice_get, sym, ap, subst, ◌∙◌, arith}
+use Rattle.std.proofs.lemmas.Option.{slice_get_within}
 use Rattle.serial_pager.specs.Seen.{StripeSeen}
 use Rattle.serial_pager.specs.Sound.{seen_of}
 use Rattle.serial_pager.specs.InsideSound.{IsSound, Flushes, SomeRose}
@@ -17,9 +18,6 @@ write_stripes-requires-clause-each g c = λ s x e.
       rest = part.rest;
       few = omega (arith, part.few, c.requires, spent);
       page_size = part.page_size ∙ sym (c.as_mut_slice.ensures.len ∙ c.self.invariant.2);
-      stripes = sym (part.stripes ∙ c.self.invariant.1);
-      number = part.number;
-      shapes = sym part.shapes;
     }
 
 pub invariant_of-self : goal.invariant_of-self
@@ -27,28 +25,28 @@ invariant_of-self g c =
     let p = c.args.self.now in
     let ins = c.self.inside in
     let sound = subst IsSound c.self.view_is c.self.invariant.0 in
-    let q = seen_of c.write_stripes.new.config c.write_stripes.new.stripes.items (ins.spent + 64) in
+    let q = seen_of ins.config c.write_stripes.new.stripes.items (ins.spent + 64) in
     let e = c.write_stripes.ensures in
     let old = c.self.view_is in
     let many : length q.stripes ≡ length p.stripes = e.count ∙ ap (λ v. length v.stripes) old in
-    let shapes : q.shapes ≡ p.shapes = ap (λ k. k.shapes.items) e.config.1 ∙ ap (λ v. v.shapes) old in
-    let size : q.page_size ≡ p.page_size = ap (λ k. k.layout.page_size) e.config.1 ∙ ap (λ v. v.page_size) old in
+    let shapes : q.shapes ≡ p.shapes = ap (λ v. v.shapes) old in
+    let size : q.page_size ≡ p.page_size = ap (λ v. v.page_size) old in
     let spent : p.spent + 64 ≡ q.spent = ap (λ v. v.spent + 64) (sym old) in
     let flushed : (s : ℕ) (x y : StripeSeen _) → slice_get p.stripes s ≡ Some x → slice_get q.stripes s ≡ Some y → Flushes x y = λ s x y a b. e.flushed s x y (ap (λ v. slice_get v.stripes s) old ∙ a) b in
     let v = c.self.invariant in
-    (sound_after p q sound many shapes size flushed 0 spent (omega (arith, spent, c.requires)), e.count ∙ v.1 ∙ sym (ap (λ k. k.layout.stripes) e.config.1), v.2 ∙ sym (ap (λ k. k.layout.page_size) e.config.1), v.3, v.4, omega (arith, e.count, v.5), omega (arith, e.count, v.6))
+    (sound_after p q sound many shapes size flushed 0 spent (omega (arith, spent, c.requires)), e.count ∙ v.1, v.2, v.3, v.4, omega (arith, e.count, v.5), omega (arith, e.count, v.6))
 
 pub returns-clause-same : goal.returns-clause-same
 returns-clause-same g c =
     let p = c.args.self.now in
     let ins = c.self.inside in
     let sound = subst IsSound c.self.view_is c.self.invariant.0 in
-    let q = seen_of c.write_stripes.new.config c.write_stripes.new.stripes.items (ins.spent + 64) in
+    let q = seen_of ins.config c.write_stripes.new.stripes.items (ins.spent + 64) in
     let e = c.write_stripes.ensures in
     let old = c.self.view_is in
     let many : length q.stripes ≡ length p.stripes = e.count ∙ ap (λ v. length v.stripes) old in
-    let shapes : q.shapes ≡ p.shapes = ap (λ k. k.shapes.items) e.config.1 ∙ ap (λ v. v.shapes) old in
-    let size : q.page_size ≡ p.page_size = ap (λ k. k.layout.page_size) e.config.1 ∙ ap (λ v. v.page_size) old in
+    let shapes : q.shapes ≡ p.shapes = ap (λ v. v.shapes) old in
+    let size : q.page_size ≡ p.page_size = ap (λ v. v.page_size) old in
     let spent : p.spent + 64 ≡ q.spent = ap (λ v. v.spent + 64) (sym old) in
     let flushed : (s : ℕ) (x y : StripeSeen _) → slice_get p.stripes s ≡ Some x → slice_get q.stripes s ≡ Some y → Flushes x y = λ s x y a b. e.flushed s x y (ap (λ v. slice_get v.stripes s) old ∙ a) b in
     same p q sound many shapes size flushed
@@ -58,12 +56,12 @@ returns-clause-within g c =
     let p = c.args.self.now in
     let ins = c.self.inside in
     let sound = subst IsSound c.self.view_is c.self.invariant.0 in
-    let q = seen_of c.write_stripes.new.config c.write_stripes.new.stripes.items (ins.spent + 64) in
+    let q = seen_of ins.config c.write_stripes.new.stripes.items (ins.spent + 64) in
     let e = c.write_stripes.ensures in
     let old = c.self.view_is in
     let many : length q.stripes ≡ length p.stripes = e.count ∙ ap (λ v. length v.stripes) old in
-    let shapes : q.shapes ≡ p.shapes = ap (λ k. k.shapes.items) e.config.1 ∙ ap (λ v. v.shapes) old in
-    let size : q.page_size ≡ p.page_size = ap (λ k. k.layout.page_size) e.config.1 ∙ ap (λ v. v.page_size) old in
+    let shapes : q.shapes ≡ p.shapes = ap (λ v. v.shapes) old in
+    let size : q.page_size ≡ p.page_size = ap (λ v. v.page_size) old in
     let spent : p.spent + 64 ≡ q.spent = ap (λ v. v.spent + 64) (sym old) in
     let flushed : (s : ℕ) (x y : StripeSeen _) → slice_get p.stripes s ≡ Some x → slice_get q.stripes s ≡ Some y → Flushes x y = λ s x y a b. e.flushed s x y (ap (λ v. slice_get v.stripes s) old ∙ a) b in
     within_of q (sound_after p q sound many shapes size flushed 0 spent (omega (arith, spent, c.requires))) c.service_knows.ensures.within
@@ -73,12 +71,12 @@ returns-clause-held g c =
     let p = c.args.self.now in
     let ins = c.self.inside in
     let sound = subst IsSound c.self.view_is c.self.invariant.0 in
-    let q = seen_of c.write_stripes.new.config c.write_stripes.new.stripes.items (ins.spent + 64) in
+    let q = seen_of ins.config c.write_stripes.new.stripes.items (ins.spent + 64) in
     let e = c.write_stripes.ensures in
     let old = c.self.view_is in
     let many : length q.stripes ≡ length p.stripes = e.count ∙ ap (λ v. length v.stripes) old in
-    let shapes : q.shapes ≡ p.shapes = ap (λ k. k.shapes.items) e.config.1 ∙ ap (λ v. v.shapes) old in
-    let size : q.page_size ≡ p.page_size = ap (λ k. k.layout.page_size) e.config.1 ∙ ap (λ v. v.page_size) old in
+    let shapes : q.shapes ≡ p.shapes = ap (λ v. v.shapes) old in
+    let size : q.page_size ≡ p.page_size = ap (λ v. v.page_size) old in
     let spent : p.spent + 64 ≡ q.spent = ap (λ v. v.spent + 64) (sym old) in
     let flushed : (s : ℕ) (x y : StripeSeen _) → slice_get p.stripes s ≡ Some x → slice_get q.stripes s ≡ Some y → Flushes x y = λ s x y a b. e.flushed s x y (ap (λ v. slice_get v.stripes s) old ∙ a) b in
     held_after p q sound many shapes size flushed
@@ -93,6 +91,7 @@ returns-clause-entries g c =
       pass = e.pass;
       some = λ failed. let d = e.some failed in (d.0, subst (λ v. d.0 < length v.stripes) old d.1, d.2);
       none = e.none;
+      once = λ s x was. let is = ap (λ v. slice_get v.stripes s) old ∙ was in e.once s x (slice_get_within c.self.inside.stripes.items s x is) is;
     }
 
 pub returns-clause-made : goal.returns-clause-made
@@ -103,12 +102,12 @@ returns-clause-owes g c =
     let p = c.args.self.now in
     let ins = c.self.inside in
     let sound = subst IsSound c.self.view_is c.self.invariant.0 in
-    let q = seen_of c.write_stripes.new.config c.write_stripes.new.stripes.items (ins.spent + 64) in
+    let q = seen_of ins.config c.write_stripes.new.stripes.items (ins.spent + 64) in
     let e = c.write_stripes.ensures in
     let old = c.self.view_is in
     let many : length q.stripes ≡ length p.stripes = e.count ∙ ap (λ v. length v.stripes) old in
-    let shapes : q.shapes ≡ p.shapes = ap (λ k. k.shapes.items) e.config.1 ∙ ap (λ v. v.shapes) old in
-    let size : q.page_size ≡ p.page_size = ap (λ k. k.layout.page_size) e.config.1 ∙ ap (λ v. v.page_size) old in
+    let shapes : q.shapes ≡ p.shapes = ap (λ v. v.shapes) old in
+    let size : q.page_size ≡ p.page_size = ap (λ v. v.page_size) old in
     let spent : p.spent + 64 ≡ q.spent = ap (λ v. v.spent + 64) (sym old) in
     let flushed : (s : ℕ) (x y : StripeSeen _) → slice_get p.stripes s ≡ Some x → slice_get q.stripes s ≡ Some y → Flushes x y = λ s x y a b. e.flushed s x y (ap (λ v. slice_get v.stripes s) old ∙ a) b in
     owes_after p q sound many shapes size flushed
@@ -118,12 +117,12 @@ returns-clause-counts g c =
     let p = c.args.self.now in
     let ins = c.self.inside in
     let sound = subst IsSound c.self.view_is c.self.invariant.0 in
-    let q = seen_of c.write_stripes.new.config c.write_stripes.new.stripes.items (ins.spent + 64) in
+    let q = seen_of ins.config c.write_stripes.new.stripes.items (ins.spent + 64) in
     let e = c.write_stripes.ensures in
     let old = c.self.view_is in
     let many : length q.stripes ≡ length p.stripes = e.count ∙ ap (λ v. length v.stripes) old in
-    let shapes : q.shapes ≡ p.shapes = ap (λ k. k.shapes.items) e.config.1 ∙ ap (λ v. v.shapes) old in
-    let size : q.page_size ≡ p.page_size = ap (λ k. k.layout.page_size) e.config.1 ∙ ap (λ v. v.page_size) old in
+    let shapes : q.shapes ≡ p.shapes = ap (λ v. v.shapes) old in
+    let size : q.page_size ≡ p.page_size = ap (λ v. v.page_size) old in
     let spent : p.spent + 64 ≡ q.spent = ap (λ v. v.spent + 64) (sym old) in
     let flushed : (s : ℕ) (x y : StripeSeen _) → slice_get p.stripes s ≡ Some x → slice_get q.stripes s ≡ Some y → Flushes x y = λ s x y a b. e.flushed s x y (ap (λ v. slice_get v.stripes s) old ∙ a) b in
     counts_after p q sound many shapes size flushed
@@ -133,12 +132,12 @@ returns-clause-tried g c =
     let p = c.args.self.now in
     let ins = c.self.inside in
     let sound = subst IsSound c.self.view_is c.self.invariant.0 in
-    let q = seen_of c.write_stripes.new.config c.write_stripes.new.stripes.items (ins.spent + 64) in
+    let q = seen_of ins.config c.write_stripes.new.stripes.items (ins.spent + 64) in
     let e = c.write_stripes.ensures in
     let old = c.self.view_is in
     let many : length q.stripes ≡ length p.stripes = e.count ∙ ap (λ v. length v.stripes) old in
-    let shapes : q.shapes ≡ p.shapes = ap (λ k. k.shapes.items) e.config.1 ∙ ap (λ v. v.shapes) old in
-    let size : q.page_size ≡ p.page_size = ap (λ k. k.layout.page_size) e.config.1 ∙ ap (λ v. v.page_size) old in
+    let shapes : q.shapes ≡ p.shapes = ap (λ v. v.shapes) old in
+    let size : q.page_size ≡ p.page_size = ap (λ v. v.page_size) old in
     let spent : p.spent + 64 ≡ q.spent = ap (λ v. v.spent + 64) (sym old) in
     let flushed : (s : ℕ) (x y : StripeSeen _) → slice_get p.stripes s ≡ Some x → slice_get q.stripes s ≡ Some y → Flushes x y = λ s x y a b. e.flushed s x y (ap (λ v. slice_get v.stripes s) old ∙ a) b in
     tried_after p q sound many shapes size flushed
@@ -148,12 +147,12 @@ returns-clause-failed g c =
     let p = c.args.self.now in
     let ins = c.self.inside in
     let sound = subst IsSound c.self.view_is c.self.invariant.0 in
-    let q = seen_of c.write_stripes.new.config c.write_stripes.new.stripes.items (ins.spent + 64) in
+    let q = seen_of ins.config c.write_stripes.new.stripes.items (ins.spent + 64) in
     let e = c.write_stripes.ensures in
     let old = c.self.view_is in
     let many : length q.stripes ≡ length p.stripes = e.count ∙ ap (λ v. length v.stripes) old in
-    let shapes : q.shapes ≡ p.shapes = ap (λ k. k.shapes.items) e.config.1 ∙ ap (λ v. v.shapes) old in
-    let size : q.page_size ≡ p.page_size = ap (λ k. k.layout.page_size) e.config.1 ∙ ap (λ v. v.page_size) old in
+    let shapes : q.shapes ≡ p.shapes = ap (λ v. v.shapes) old in
+    let size : q.page_size ≡ p.page_size = ap (λ v. v.page_size) old in
     let spent : p.spent + 64 ≡ q.spent = ap (λ v. v.spent + 64) (sym old) in
     let flushed : (s : ℕ) (x y : StripeSeen _) → slice_get p.stripes s ≡ Some x → slice_get q.stripes s ≡ Some y → Flushes x y = λ s x y a b. e.flushed s x y (ap (λ v. slice_get v.stripes s) old ∙ a) b in
     λ failed. failed_after p q sound many shapes size flushed (subst (λ xs. SomeRose xs q.stripes) (ap (λ v. v.stripes) old) (e.failed failed))
@@ -163,12 +162,12 @@ returns-clause-stored g c =
     let p = c.args.self.now in
     let ins = c.self.inside in
     let sound = subst IsSound c.self.view_is c.self.invariant.0 in
-    let q = seen_of c.write_stripes.new.config c.write_stripes.new.stripes.items (ins.spent + 64) in
+    let q = seen_of ins.config c.write_stripes.new.stripes.items (ins.spent + 64) in
     let e = c.write_stripes.ensures in
     let old = c.self.view_is in
     let many : length q.stripes ≡ length p.stripes = e.count ∙ ap (λ v. length v.stripes) old in
-    let shapes : q.shapes ≡ p.shapes = ap (λ k. k.shapes.items) e.config.1 ∙ ap (λ v. v.shapes) old in
-    let size : q.page_size ≡ p.page_size = ap (λ k. k.layout.page_size) e.config.1 ∙ ap (λ v. v.page_size) old in
+    let shapes : q.shapes ≡ p.shapes = ap (λ v. v.shapes) old in
+    let size : q.page_size ≡ p.page_size = ap (λ v. v.page_size) old in
     let spent : p.spent + 64 ≡ q.spent = ap (λ v. v.spent + 64) (sym old) in
     let flushed : (s : ℕ) (x y : StripeSeen _) → slice_get p.stripes s ≡ Some x → slice_get q.stripes s ≡ Some y → Flushes x y = λ s x y a b. e.flushed s x y (ap (λ v. slice_get v.stripes s) old ∙ a) b in
     λ no. stored_after p q sound many shapes size flushed (e.stored no)

@@ -17,42 +17,42 @@ use Rattle.serial_pager.proofs.stripe.SerialStripe.store.Goals as goal
 self_owed : (c : Core) (k : Key) → owes_with c k k ≡ true
 self_owed c k = or_right (owes c k) (same k k) (same_self k)
 
-pub saved-requires-clause-few : goal.saved-requires-clause-few
-saved-requires-clause-few g c =
+pub try_store-requires-clause-few : goal.try_store-requires-clause-few
+try_store-requires-clause-few g c =
     let few = turned_few g.J.Journal.has_noted true is_for_store c.args.key (owes_with c.args.self.now.core c.args.key) c.model_laws.ensures c.args.self.now c.loop-key.self c.requires.rest c.loop-key.invariant.turned in
     omega (arith, few, c.requires.few)
 
 pub serve-requires-clause-few : goal.serve-requires-clause-few
 serve-requires-clause-few g c =
     let few = turned_few g.J.Journal.has_noted true is_for_store c.args.key (owes_with c.args.self.now.core c.args.key) c.model_laws.ensures c.args.self.now c.loop-key.self c.requires.rest c.loop-key.invariant.turned in
-    let one = raises_events c.args.key (why_shut c.loop-key.self.core c.args.key) c.loop-key.self.core c.saved.new.self.core (c.saved.ensures.raises c.loop-key-test.true) in
+    let one = raises_events c.args.key (why_shut c.loop-key.self.core c.args.key) c.loop-key.self.core c.try_store.new.self.core (c.try_store.ensures.raises c.loop-key-test.true) in
     omega (arith, few, one, c.requires.few)
 
 pub loop-key-smaller : goal.loop-key-smaller
 loop-key-smaller g c =
-    let asked = asks_store g.J.Journal.has_noted c.args.key (owes_with c.args.self.now.core c.args.key) c.loop-key.self c.saved.new.self c.saved.ensures.rest (c.saved.ensures.before c.loop-key-test.true) (c.saved.ensures.raises c.loop-key-test.true) (c.saved.ensures.missed c.loop-key-test.true) (self_owed c.args.self.now.core c.args.key) in
-    turned_less g.J.Journal.has_noted true is_for_store c.args.key (owes_with c.args.self.now.core c.args.key) c.model_laws.ensures (why_shut c.loop-key.self.core c.args.key) c.loop-key.self c.saved.new.self c.serve.new.self asked c.in-Ok.ensures.steps
+    let asked = asks_store g.J.Journal.has_noted c.args.key (owes_with c.args.self.now.core c.args.key) c.loop-key.self c.try_store.new.self c.try_store.ensures.rest (c.try_store.ensures.before c.loop-key-test.true) (c.try_store.ensures.raises c.loop-key-test.true) (c.try_store.ensures.missed c.loop-key-test.true) (self_owed c.args.self.now.core c.args.key) in
+    turned_less g.J.Journal.has_noted true is_for_store c.args.key (owes_with c.args.self.now.core c.args.key) c.model_laws.ensures (why_shut c.loop-key.self.core c.args.key) c.loop-key.self c.try_store.new.self c.serve.new.self asked c.in-Ok.ensures.steps
 
 pub loop-key-preserved : goal.loop-key-preserved
 loop-key-preserved g c =
     let no = c.loop-key-test.true in
-    let asked = asks_store g.J.Journal.has_noted c.args.key (owes_with c.args.self.now.core c.args.key) c.loop-key.self c.saved.new.self c.saved.ensures.rest (c.saved.ensures.before no) (c.saved.ensures.raises no) (c.saved.ensures.missed no) (self_owed c.args.self.now.core c.args.key) in
+    let asked = asks_store g.J.Journal.has_noted c.args.key (owes_with c.args.self.now.core c.args.key) c.loop-key.self c.try_store.new.self c.try_store.ensures.rest (c.try_store.ensures.before no) (c.try_store.ensures.raises no) (c.try_store.ensures.missed no) (self_owed c.args.self.now.core c.args.key) in
     record {
-      turned = turned_once g.J.Journal.has_noted true is_for_store c.args.key (owes_with c.args.self.now.core c.args.key) c.model_laws.ensures (why_shut c.loop-key.self.core c.args.key) c.args.self.now c.loop-key.self c.saved.new.self c.serve.new.self c.loop-key.invariant.turned asked c.serve.ensures.rest (c.in-Ok.ensures.went is_for_store) c.in-Ok.ensures.steps;
-      made = c.serve.ensures.made ∙ (c.saved.ensures.made ∙ c.loop-key.invariant.made);
+      turned = turned_once g.J.Journal.has_noted true is_for_store c.args.key (owes_with c.args.self.now.core c.args.key) c.model_laws.ensures (why_shut c.loop-key.self.core c.args.key) c.args.self.now c.loop-key.self c.try_store.new.self c.serve.new.self c.loop-key.invariant.turned asked c.serve.ensures.rest (c.in-Ok.ensures.went is_for_store) c.in-Ok.ensures.steps;
+      made = c.serve.ensures.made ∙ (c.try_store.ensures.made ∙ c.loop-key.invariant.made);
     }
 
 pub returns-in-Err-clause-few : goal.returns-in-Err-clause-few
 returns-in-Err-clause-few g c =
     let no = c.loop-key-test.true in
-    let asked = asks_store g.J.Journal.has_noted c.args.key (owes_with c.args.self.now.core c.args.key) c.loop-key.self c.saved.new.self c.saved.ensures.rest (c.saved.ensures.before no) (c.saved.ensures.raises no) (c.saved.ensures.missed no) (self_owed c.args.self.now.core c.args.key) in
-    failed_events g.J.Journal.has_noted true is_for_store c.args.key (owes_with c.args.self.now.core c.args.key) c.model_laws.ensures (why_shut c.loop-key.self.core c.args.key) c.args.self.now c.loop-key.self c.saved.new.self c.serve.new.self c.in-Err.fault c.requires.rest c.loop-key.invariant.turned asked c.in-Err.ensures.fault
+    let asked = asks_store g.J.Journal.has_noted c.args.key (owes_with c.args.self.now.core c.args.key) c.loop-key.self c.try_store.new.self c.try_store.ensures.rest (c.try_store.ensures.before no) (c.try_store.ensures.raises no) (c.try_store.ensures.missed no) (self_owed c.args.self.now.core c.args.key) in
+    failed_events g.J.Journal.has_noted true is_for_store c.args.key (owes_with c.args.self.now.core c.args.key) c.model_laws.ensures (why_shut c.loop-key.self.core c.args.key) c.args.self.now c.loop-key.self c.try_store.new.self c.serve.new.self c.in-Err.fault c.requires.rest c.loop-key.invariant.turned asked c.in-Err.ensures.fault
 
 pub returns-in-Err-clause-err : goal.returns-in-Err-clause-err
 returns-in-Err-clause-err g c =
     let no = c.loop-key-test.true in
-    let asked = asks_store g.J.Journal.has_noted c.args.key (owes_with c.args.self.now.core c.args.key) c.loop-key.self c.saved.new.self c.saved.ensures.rest (c.saved.ensures.before no) (c.saved.ensures.raises no) (c.saved.ensures.missed no) (self_owed c.args.self.now.core c.args.key) in
-    failed_access g.J.Journal.has_noted true is_for_store c.args.key (owes_with c.args.self.now.core c.args.key) (why_shut c.loop-key.self.core c.args.key) c.args.self.now c.loop-key.self c.saved.new.self c.serve.new.self c.in-Err.fault c.loop-key.invariant.turned asked (c.in-Err.ensures.ends is_for_store)
+    let asked = asks_store g.J.Journal.has_noted c.args.key (owes_with c.args.self.now.core c.args.key) c.loop-key.self c.try_store.new.self c.try_store.ensures.rest (c.try_store.ensures.before no) (c.try_store.ensures.raises no) (c.try_store.ensures.missed no) (self_owed c.args.self.now.core c.args.key) in
+    failed_access g.J.Journal.has_noted true is_for_store c.args.key (owes_with c.args.self.now.core c.args.key) (why_shut c.loop-key.self.core c.args.key) c.args.self.now c.loop-key.self c.try_store.new.self c.serve.new.self c.in-Err.fault c.loop-key.invariant.turned asked (c.in-Err.ensures.ends is_for_store)
 
 pub returns-in-Err-clause-untouched : goal.returns-in-Err-clause-untouched
 returns-in-Err-clause-untouched g c =
@@ -61,52 +61,52 @@ returns-in-Err-clause-untouched g c =
 pub returns-in-Err-clause-owes : goal.returns-in-Err-clause-owes
 returns-in-Err-clause-owes g c =
     let no = c.loop-key-test.true in
-    let asked = asks_store g.J.Journal.has_noted c.args.key (owes_with c.args.self.now.core c.args.key) c.loop-key.self c.saved.new.self c.saved.ensures.rest (c.saved.ensures.before no) (c.saved.ensures.raises no) (c.saved.ensures.missed no) (self_owed c.args.self.now.core c.args.key) in
-    failed_owes g.J.Journal.has_noted true is_for_store c.args.key (owes_with c.args.self.now.core c.args.key) (why_shut c.loop-key.self.core c.args.key) c.args.self.now c.loop-key.self c.saved.new.self c.serve.new.self c.in-Err.fault c.loop-key.invariant.turned asked c.in-Err.ensures.fault
+    let asked = asks_store g.J.Journal.has_noted c.args.key (owes_with c.args.self.now.core c.args.key) c.loop-key.self c.try_store.new.self c.try_store.ensures.rest (c.try_store.ensures.before no) (c.try_store.ensures.raises no) (c.try_store.ensures.missed no) (self_owed c.args.self.now.core c.args.key) in
+    failed_owes g.J.Journal.has_noted true is_for_store c.args.key (owes_with c.args.self.now.core c.args.key) (why_shut c.loop-key.self.core c.args.key) c.args.self.now c.loop-key.self c.try_store.new.self c.serve.new.self c.in-Err.fault c.loop-key.invariant.turned asked c.in-Err.ensures.fault
 
 pub returns-in-Err-clause-fault : goal.returns-in-Err-clause-fault
 returns-in-Err-clause-fault g c =
     let no = c.loop-key-test.true in
-    let asked = asks_store g.J.Journal.has_noted c.args.key (owes_with c.args.self.now.core c.args.key) c.loop-key.self c.saved.new.self c.saved.ensures.rest (c.saved.ensures.before no) (c.saved.ensures.raises no) (c.saved.ensures.missed no) (self_owed c.args.self.now.core c.args.key) in
-    failed_names g.J.Journal.has_noted true is_for_store c.args.key (owes_with c.args.self.now.core c.args.key) c.model_laws.ensures (why_shut c.loop-key.self.core c.args.key) c.args.self.now c.loop-key.self c.saved.new.self c.serve.new.self c.in-Err.fault c.loop-key.invariant.turned asked c.in-Err.ensures.fault
+    let asked = asks_store g.J.Journal.has_noted c.args.key (owes_with c.args.self.now.core c.args.key) c.loop-key.self c.try_store.new.self c.try_store.ensures.rest (c.try_store.ensures.before no) (c.try_store.ensures.raises no) (c.try_store.ensures.missed no) (self_owed c.args.self.now.core c.args.key) in
+    failed_names g.J.Journal.has_noted true is_for_store c.args.key (owes_with c.args.self.now.core c.args.key) c.model_laws.ensures (why_shut c.loop-key.self.core c.args.key) c.args.self.now c.loop-key.self c.try_store.new.self c.serve.new.self c.in-Err.fault c.loop-key.invariant.turned asked c.in-Err.ensures.fault
 
 pub returns-in-Err-clause-counts : goal.returns-in-Err-clause-counts
 returns-in-Err-clause-counts g c =
     let no = c.loop-key-test.true in
-    let asked = asks_store g.J.Journal.has_noted c.args.key (owes_with c.args.self.now.core c.args.key) c.loop-key.self c.saved.new.self c.saved.ensures.rest (c.saved.ensures.before no) (c.saved.ensures.raises no) (c.saved.ensures.missed no) (self_owed c.args.self.now.core c.args.key) in
-    failed_counts g.J.Journal.has_noted true is_for_store c.args.key (owes_with c.args.self.now.core c.args.key) c.model_laws.ensures (why_shut c.loop-key.self.core c.args.key) c.args.self.now c.loop-key.self c.saved.new.self c.serve.new.self c.in-Err.fault c.loop-key.invariant.turned asked c.in-Err.ensures.fault
+    let asked = asks_store g.J.Journal.has_noted c.args.key (owes_with c.args.self.now.core c.args.key) c.loop-key.self c.try_store.new.self c.try_store.ensures.rest (c.try_store.ensures.before no) (c.try_store.ensures.raises no) (c.try_store.ensures.missed no) (self_owed c.args.self.now.core c.args.key) in
+    failed_counts g.J.Journal.has_noted true is_for_store c.args.key (owes_with c.args.self.now.core c.args.key) c.model_laws.ensures (why_shut c.loop-key.self.core c.args.key) c.args.self.now c.loop-key.self c.try_store.new.self c.serve.new.self c.in-Err.fault c.loop-key.invariant.turned asked c.in-Err.ensures.fault
 
 pub returns-clause-few : goal.returns-clause-few
 returns-clause-few g c =
     let few = turned_few g.J.Journal.has_noted true is_for_store c.args.key (owes_with c.args.self.now.core c.args.key) c.model_laws.ensures c.args.self.now c.loop-key.self c.requires.rest c.loop-key.invariant.turned in
-    let one : c.saved.new.self.core.events ≡ c.loop-key.self.core.events + 1 = ap (λ (x : Core). x.events) (c.saved.ensures.step c.loop-key-test.false) in
+    let one : c.try_store.new.self.core.events ≡ c.loop-key.self.core.events + 1 = ap (λ (x : Core). x.events) (c.try_store.ensures.step c.loop-key-test.false) in
     omega (arith, few, one)
 
 pub returns-clause-ok : goal.returns-clause-ok
 returns-clause-ok g c =
-    turned_to g.J.Journal.has_noted true is_for_store c.args.key (owes_with c.args.self.now.core c.args.key) c.args.self.now c.loop-key.self c.saved.new.self (entry.Save c.args.key c.args.place c.args.bytes.now) c.loop-key.invariant.turned (c.saved.ensures.went c.loop-key-test.false)
+    turned_to g.J.Journal.has_noted true is_for_store c.args.key (owes_with c.args.self.now.core c.args.key) c.args.self.now c.loop-key.self c.try_store.new.self (entry.Save c.args.key c.args.place c.args.bytes.now) c.loop-key.invariant.turned (c.try_store.ensures.went c.loop-key-test.false)
 
 pub returns-clause-bytes : goal.returns-clause-bytes
 returns-clause-bytes g c =
     let yes = c.loop-key-test.false in
     let before = turned_holds g.J.Journal.has_noted true is_for_store c.args.key (owes_with c.args.self.now.core c.args.key) c.model_laws.ensures c.args.self.now c.loop-key.self c.requires.rest c.loop-key.invariant.turned c.args.key c.requires.in_page.page in
-    let step : c.saved.new.self.core ≡ step.save c.loop-key.self.core c.args.key c.args.place c.args.bytes.now = c.saved.ensures.step yes in
-    ap (λ (x : Core). held x c.args.key) step ∙ (saved_here c.loop-key.self.core c.args.key c.args.place c.args.bytes.now (c.saved.ensures.hit yes) ∙ ap (option_map (λ page. spliced page c.args.place c.args.bytes.now)) before)
+    let step : c.try_store.new.self.core ≡ step.save c.loop-key.self.core c.args.key c.args.place c.args.bytes.now = c.try_store.ensures.step yes in
+    ap (λ (x : Core). held x c.args.key) step ∙ (saved_here c.loop-key.self.core c.args.key c.args.place c.args.bytes.now (c.try_store.ensures.hit yes) ∙ ap (option_map (λ page. spliced page c.args.place c.args.bytes.now)) before)
 
 pub returns-clause-others : goal.returns-clause-others
 returns-clause-others g c = λ j page ne.
     let before = turned_holds g.J.Journal.has_noted true is_for_store c.args.key (owes_with c.args.self.now.core c.args.key) c.model_laws.ensures c.args.self.now c.loop-key.self c.requires.rest c.loop-key.invariant.turned j page in
-    let step : c.saved.new.self.core ≡ step.save c.loop-key.self.core c.args.key c.args.place c.args.bytes.now = c.saved.ensures.step c.loop-key-test.false in
+    let step : c.try_store.new.self.core ≡ step.save c.loop-key.self.core c.args.key c.args.place c.args.bytes.now = c.try_store.ensures.step c.loop-key-test.false in
     ap (λ (x : Core). held x j) step ∙ (saved_elsewhere c.loop-key.self.core c.args.key c.args.place c.args.bytes.now j ne ∙ before)
 
 pub returns-clause-owes : goal.returns-clause-owes
 returns-clause-owes g c = λ j e.
-    let step : c.saved.new.self.core ≡ step.save c.loop-key.self.core c.args.key c.args.place c.args.bytes.now = c.saved.ensures.step c.loop-key-test.false in
+    let step : c.try_store.new.self.core ≡ step.save c.loop-key.self.core c.args.key c.args.place c.args.bytes.now = c.try_store.ensures.step c.loop-key-test.false in
     c.loop-key.invariant.turned.owes_ j (sym (saved_owes c.loop-key.self.core c.args.key c.args.place c.args.bytes.now j) ∙ (sym (ap (λ (x : Core). owes x j) step) ∙ e))
 
 pub returns-clause-counts : goal.returns-clause-counts
 returns-clause-counts g c =
-    let step : c.saved.new.self.core ≡ step.save c.loop-key.self.core c.args.key c.args.place c.args.bytes.now = c.saved.ensures.step c.loop-key-test.false in
+    let step : c.try_store.new.self.core ≡ step.save c.loop-key.self.core c.args.key c.args.place c.args.bytes.now = c.try_store.ensures.step c.loop-key-test.false in
     subst (λ (x : Core). CountsGrow c.args.self.now.core x) (sym step) c.loop-key.invariant.turned.counts
 
 -- the page that is stored to may owe
@@ -117,7 +117,13 @@ loop-key-init g c = record {
 }
 
 pub returns-clause-fixed : goal.returns-clause-fixed
-returns-clause-fixed g c = (returns-clause-ok g c).went.setup
+returns-clause-fixed g c =
+    let setup = (returns-clause-ok g c).went.setup in
+    let made = c.try_store.ensures.made ∙ c.loop-key.invariant.made in
+    λ i. record { setup = setup i; journal = made i }
 
 pub returns-in-Err-clause-fixed : goal.returns-in-Err-clause-fixed
-returns-in-Err-clause-fixed g c = failed_setup g.J.Journal.has_noted true is_for_store c.args.key (owes_with c.args.self.now.core c.args.key) c.args.self.now c.serve.new.self c.in-Err.fault (returns-in-Err-clause-err g c)
+returns-in-Err-clause-fixed g c =
+    let setup = failed_setup g.J.Journal.has_noted true is_for_store c.args.key (owes_with c.args.self.now.core c.args.key) c.args.self.now c.serve.new.self c.in-Err.fault (returns-in-Err-clause-err g c) in
+    let made = c.serve.ensures.made ∙ (c.try_store.ensures.made ∙ c.loop-key.invariant.made) in
+    λ i. record { setup = setup i; journal = made i }

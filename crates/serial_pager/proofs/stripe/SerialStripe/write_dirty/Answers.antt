@@ -1,73 +1,81 @@
-use Rattle.std.proofs.Common.{Some, ap, arith, false, inl, inr, length, slice_get, subst, sym, true, ◌+◌, ◌∙◌, ◌<◌, ◌≡◌}
-use Rattle.serial_pager.specs.Writings.{WroteBack}
-use Rattle.serial_pager.proofs.Flushes.{TriedAll, TriedRegion, all_failed, all_well, flushes_hold, room_for_next, stored}
-use Rattle.serial_pager.proofs.stripe.SerialStripe.write_dirty.Goals.{then-write_region, else-write_region}
+use Rattle.std.proofs.Common.{Some, ap, arith, false, refl, subst, sym, true, ◌∙◌}
+use Rattle.page_model.specs.Core.{next_dirty}
+use Rattle.page_model.specs.Readers.{IsNextToFlush}
+use Rattle.serial_pager.proofs.Flushes.{Tried, all_stored, each_once, each_tried, flushes_hold, left_less, or_false, or_true, room_left, tried_more, tried_none}
 use Rattle.serial_pager.proofs.stripe.SerialStripe.write_dirty.Goals as goal
 
-pub write_region-requires-clause-few : goal.write_region-requires-clause-few
-write_region-requires-clause-few g c =
-    let shape = c.get-shape.result.now in
-    let is : slice_get c.args.self.now.core.setup.shapes c.loop-region.region ≡ Some shape = ap (λ xs. slice_get xs c.loop-region.region) (sym c.requires.config.shapes) ∙ c.get-shape.ensures in
-    room_for_next g.J.Journal.has_noted c.loop-region.region shape c.loop-region.failed c.args.self.now c.loop-region.self c.requires.rest c.requires.few c.loop-region.invariant.tried is
+pub pages-init : goal.pages-init
+pages-init g c = record { tried = tried_none g.J.Journal.has_noted c.args.self.now c.requires.rest; made = refl }
 
-pub loop-region-preserved : goal.loop-region-preserved
-loop-region-preserved g c =
-    let shape = c.get-shape.result.now in
-    let d = c.write_region.ensures in
-    let is : slice_get c.args.self.now.core.setup.shapes c.loop-region.region ≡ Some shape = ap (λ xs. slice_get xs c.loop-region.region) (sym c.requires.config.shapes) ∙ c.get-shape.ensures in
-    elim c.if-write_region.branch [
-      | then-write_region w ↦
-          let one : TriedRegion g.J.Journal.has_noted c.loop-region.region shape.pages true c.loop-region.self c.write_region.new.self = record {
-            rest = d.rest;
-            went = subst (λ f. WroteBack g.J.Journal.has_noted f c.loop-region.self c.write_region.new.self) w.if-write_region.true d.went;
-            owes = d.owes;
-            counts = d.counts;
-            stays_clean = d.clean;
-            rose = λ e. d.failed w.if-write_region.true;
-            clean = λ e. absurd cc;
-            few = d.few;
-          } in
-          record {
-            tried = subst (λ f. TriedAll g.J.Journal.has_noted (c.loop-region.region + 1) f c.args.self.now c.write_region.new.self) (sym w.failed-is)
-                (all_failed g.J.Journal.has_noted c.loop-region.region shape c.loop-region.failed c.args.self.now c.loop-region.self c.write_region.new.self c.loop-region.invariant.tried is one);
-            made = d.made ∙ c.loop-region.invariant.made;
-          }
-      | else-write_region w ↦
-          let one : TriedRegion g.J.Journal.has_noted c.loop-region.region shape.pages false c.loop-region.self c.write_region.new.self = record {
-            rest = d.rest;
-            went = subst (λ f. WroteBack g.J.Journal.has_noted f c.loop-region.self c.write_region.new.self) w.if-write_region.false d.went;
-            owes = d.owes;
-            counts = d.counts;
-            stays_clean = d.clean;
-            rose = λ e. absurd cc;
-            clean = λ e. d.stored w.if-write_region.false;
-            few = d.few;
-          } in
-          record {
-            tried = subst (λ f. TriedAll g.J.Journal.has_noted (c.loop-region.region + 1) f c.args.self.now c.write_region.new.self) (sym w.failed-is)
-                (all_well g.J.Journal.has_noted c.loop-region.region shape c.loop-region.failed c.args.self.now c.loop-region.self c.write_region.new.self c.loop-region.invariant.tried is one);
-            made = d.made ∙ c.loop-region.invariant.made;
-          }
-    ]
+pub write_page-requires-clause-few : goal.write_page-requires-clause-few
+write_page-requires-clause-few g c =
+    let few = c.pages.invariant.tried.few in
+    let room = room_left c.model_laws.ensures c.args.self.now.core c.requires.rest in
+    omega (arith, few, room, c.requires.few)
+
+pub write_page-requires-clause-dirty : goal.write_page-requires-clause-dirty
+write_page-requires-clause-dirty g c =
+    let rest = c.pages.invariant.tried.rest in
+    (c.model_laws.ensures.flush.next rest.history c.pages.self.core c.pages.after c.in-Some.key rest.stands (ap (λ v. next_dirty v.core c.pages.after) (sym c.self.view_is) ∙ sym c.in-Some.ensures.exact)).dirty
+
+pub pages-smaller-then-write_page : goal.pages-smaller-then-write_page
+pages-smaller-then-write_page g c =
+    let t = c.pages.invariant.tried in
+    let d = c.if-write_page.ensures in
+    let next : IsNextToFlush c.pages.self.core c.pages.after c.in-Some.key = c.model_laws.ensures.flush.next t.rest.history c.pages.self.core c.pages.after c.in-Some.key t.rest.stands (ap (λ v. next_dirty v.core c.pages.after) (sym c.self.view_is) ∙ sym c.in-Some.ensures.exact) in
+    let less = left_less g.J.Journal.has_noted c.model_laws.ensures c.pages.after c.pages.failed true c.in-Some.key c.args.self.now c.pages.self c.write_page.new.self t next d.rest d.steps d.went in
+    omega (arith, less)
+
+pub pages-smaller : goal.pages-smaller
+pages-smaller g c =
+    let t = c.pages.invariant.tried in
+    let d = c.if-write_page.ensures in
+    let next : IsNextToFlush c.pages.self.core c.pages.after c.in-Some.key = c.model_laws.ensures.flush.next t.rest.history c.pages.self.core c.pages.after c.in-Some.key t.rest.stands (ap (λ v. next_dirty v.core c.pages.after) (sym c.self.view_is) ∙ sym c.in-Some.ensures.exact) in
+    let less = left_less g.J.Journal.has_noted c.model_laws.ensures c.pages.after c.pages.failed false c.in-Some.key c.args.self.now c.pages.self c.write_page.new.self t next d.rest d.steps d.went in
+    omega (arith, less)
+
+pub pages-preserved-then-write_page : goal.pages-preserved-then-write_page
+pages-preserved-then-write_page g c =
+    let t = c.pages.invariant.tried in
+    let d = c.if-write_page.ensures in
+    let next : IsNextToFlush c.pages.self.core c.pages.after c.in-Some.key = c.model_laws.ensures.flush.next t.rest.history c.pages.self.core c.pages.after c.in-Some.key t.rest.stands (ap (λ v. next_dirty v.core c.pages.after) (sym c.self.view_is) ∙ sym c.in-Some.ensures.exact) in
+    let more = tried_more g.J.Journal.has_noted c.model_laws.ensures c.pages.after c.pages.failed true c.in-Some.key c.args.self.now c.pages.self c.write_page.new.self t next d.rest d.steps d.went in
+    record {
+      tried = subst (λ f. Tried g.J.Journal.has_noted (Some c.in-Some.key) f c.args.self.now c.write_page.new.self) (or_true c.pages.failed) more;
+      made = d.made ∙ c.pages.invariant.made;
+    }
+
+pub pages-preserved : goal.pages-preserved
+pages-preserved g c =
+    let t = c.pages.invariant.tried in
+    let d = c.if-write_page.ensures in
+    let next : IsNextToFlush c.pages.self.core c.pages.after c.in-Some.key = c.model_laws.ensures.flush.next t.rest.history c.pages.self.core c.pages.after c.in-Some.key t.rest.stands (ap (λ v. next_dirty v.core c.pages.after) (sym c.self.view_is) ∙ sym c.in-Some.ensures.exact) in
+    let more = tried_more g.J.Journal.has_noted c.model_laws.ensures c.pages.after c.pages.failed false c.in-Some.key c.args.self.now c.pages.self c.write_page.new.self t next d.rest d.steps d.went in
+    record {
+      tried = subst (λ f. Tried g.J.Journal.has_noted (Some c.in-Some.key) f c.args.self.now c.write_page.new.self) (or_false c.pages.failed) more;
+      made = d.made ∙ c.pages.invariant.made;
+    }
+
+pub returns-clause-few : goal.returns-clause-few
+returns-clause-few g c =
+    let few = c.pages.invariant.tried.few in
+    let room = room_left c.model_laws.ensures c.args.self.now.core c.requires.rest in
+    omega (arith, few, room)
 
 pub returns-clause-held : goal.returns-clause-held
-returns-clause-held g c = flushes_hold c.model_laws.ensures g.J.Journal.has_noted c.loop-region.failed c.args.self.now c.loop-region.self c.requires.rest c.loop-region.invariant.tried.rest c.loop-region.invariant.tried.went
+returns-clause-held g c = flushes_hold c.model_laws.ensures g.J.Journal.has_noted c.pages.failed c.args.self.now c.pages.self c.requires.rest c.pages.invariant.tried.rest c.pages.invariant.tried.back
 
-pub returns-clause-owes : goal.returns-clause-owes
-returns-clause-owes g c = c.loop-region.invariant.tried.owes
+pub returns-clause-entries : goal.returns-clause-entries
+returns-clause-entries g c = each_once g.J.Journal.has_noted c.model_laws.ensures c.pages.after c.pages.failed c.args.self.now c.pages.self c.pages.invariant.tried (ap (λ v. next_dirty v.core c.pages.after) (sym c.self.view_is) ∙ sym c.in_default.ensures.exact)
 
 pub returns-clause-tried : goal.returns-clause-tried
-returns-clause-tried g c = λ r lt.
-    let end : r < c.loop-region.region = omega (arith, lt, c.loop-region-test.false, c.len-region-end.ensures, ap length c.requires.config.shapes) in
-    elim (c.loop-region.invariant.tried.each r end) [
-      | inl rose ↦ inl rose
-      | inr clean ↦ inr (stored c.model_laws.ensures c.loop-region.self.core r c.loop-region.invariant.tried.rest clean)
-    ]
+returns-clause-tried g c = λ r lt. each_tried g.J.Journal.has_noted c.model_laws.ensures c.pages.after c.pages.failed c.args.self.now c.pages.self c.pages.invariant.tried (ap (λ v. next_dirty v.core c.pages.after) (sym c.self.view_is) ∙ sym c.in_default.ensures.exact) r
 
 pub returns-clause-stored : goal.returns-clause-stored
-returns-clause-stored g c = λ e r lt.
-    let end : r < c.loop-region.region = omega (arith, lt, c.loop-region-test.false, c.len-region-end.ensures, ap length c.requires.config.shapes) in
-    stored c.model_laws.ensures c.loop-region.self.core r c.loop-region.invariant.tried.rest (c.loop-region.invariant.tried.clean e r end)
+returns-clause-stored g c = λ e r lt. all_stored g.J.Journal.has_noted c.model_laws.ensures c.pages.after c.pages.failed c.args.self.now c.pages.self c.pages.invariant.tried (ap (λ v. next_dirty v.core c.pages.after) (sym c.self.view_is) ∙ sym c.in_default.ensures.exact) e r
 
 pub returns-clause-fixed : goal.returns-clause-fixed
-returns-clause-fixed g c = c.loop-region.invariant.tried.went.went.setup
+returns-clause-fixed g c =
+    let setup = c.pages.invariant.tried.back.went.setup in
+    let made = c.pages.invariant.made in
+    λ i. record { setup = setup i; journal = made i }

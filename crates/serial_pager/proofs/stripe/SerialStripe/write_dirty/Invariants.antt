@@ -1,9 +1,12 @@
 use Rattle.std.proofs.Common.{◌≡◌}
-use Rattle.serial_pager.proofs.Flushes.{TriedAll}
+use Rattle.serial_pager.proofs.Flushes.{Tried, left}
 use Rattle.serial_pager.proofs.stripe.SerialStripe.write_dirty.Given as goal
 
-abbrev pub invariant-loop-region : goal.invariant-loop-region
-invariant-loop-region g l = record {
-  tried : TriedAll g.J.Journal.has_noted l.region l.failed l.initial.self l.self;
+abbrev pub invariant-pages : goal.invariant-pages
+invariant-pages g l = record {
+  tried : Tried g.J.Journal.has_noted l.after l.failed l.initial.self l.self;
   made : g.J.Journal.made_with l.self.journal ≡ g.J.Journal.made_with l.initial.self.journal;
 }
+
+abbrev pub decreases-pages : goal.decreases-pages
+decreases-pages g l = left l.self.core l.after

@@ -1,17 +1,17 @@
 //! Loads and stores of a part of one page, with the page faults that they make.
-ghost use Rattle.std.specs.Prelude.{◌≡◌, ◌+◌, ◌≤◌, ◌^◌, ◌<◌, [], ◌∷◌, true, false, length, slice_range, OnOk, OnErr, IfErr, IfSome, option_map};
+ghost use Rattle.std.specs.Prelude.{◌≡◌, ◌+◌, ◌≤◌, ◌^◌, ◌<◌, [], ◌∷◌, true, false, length, OnOk, OnErr, IfErr};
 ghost use Rattle.page_base.specs.declared.keys.Key.{Key};
-ghost use Rattle.page_base.specs.ListSeen.{spliced};
 ghost use Rattle.page_model.specs.declared.entry.Entry.TheVariants as entry;
 ghost use Rattle.page_model.specs.Events.{InPage};
 ghost use Rattle.page_model.specs.Core.{is_present};
-ghost use Rattle.page_model.specs.Setups.{has_page, is_writable};
+ghost use Rattle.page_model.specs.Setups.{is_writable};
 ghost use Rattle.page_model.specs.Steps as step;
 ghost use Rattle.stripe_core.specs.Answers.{GivesBytes};
-ghost use Rattle.serial_pager.specs.Accesses.{serves, is_read, NamesCount, AccessFails};
-ghost use Rattle.serial_pager.specs.Goings.{Went, WentTo};
+ghost use Rattle.serial_pager.specs.Accesses.{serves, is_read, NamesCount, Loads, LoadFails, Stores, StoreFails};
+ghost use Rattle.serial_pager.specs.Goings.{Went};
 ghost use Rattle.serial_pager.specs.InsideGoings.{WentBy};
-ghost use Rattle.serial_pager.specs.Holdings.{held, owes, owes_with, is_for_store, CountsGrow, HoldsSame};
+ghost use Rattle.serial_pager.specs.Holdings.{held, owes, owes_with, is_for_store, AreBytesAt, stored_over, CountsGrow, HoldsSame, HoldsOthers};
+ghost use Rattle.serial_pager.specs.Seen.{fixed_of};
 ghost use Rattle.serial_pager.specs.Rests.{IsAtRest};
 ghost use Rattle.serial_pager.specs.InsideServices.{Raises, is_shut, why_shut};
 
@@ -38,24 +38,23 @@ impl<S: Store, J: Journal> SerialStripe<S, J> {
         requires scratch { length scratch.old ≡ self.old.core.setup.page_size }
         requires in_page { InPage self.old.core.setup key place (length buf.old) }
         ensures rest { IsAtRest self.new.core }
-        ensures fixed { self.new.core.setup ≡ self.old.core.setup }
-        ensures made { J.made_with self.new.journal ≡ J.made_with self.old.journal }
+        ensures fixed { fixed_of J.made_with self.new ≡ fixed_of J.made_with self.old }
         ensures few { self.new.core.events ≤ self.old.core.events + 2 ^ 16 }
 
         // what the pages hold
-        ensures bytes { OnOk result (IfSome (held self.old.core key) (λ page. buf.new ≡ slice_range page place (place + length buf.new))) }
+        ensures bytes { OnOk result (AreBytesAt (held self.old.core key) place buf.new) }
         ensures untouched { OnErr result (buf.new ≡ buf.old) }
         ensures held { HoldsSame self.old.core self.new.core }
         ensures owes { (j : Key) → owes self.new.core j ≡ true → owes self.old.core j ≡ true }
 
         // the entries, and the store's faults
-        ensures ok { OnOk result (WentTo J.has_noted (serves key is_read) (entry.Load key place buf.new) self.old self.new) }
-        ensures err { IfErr result (λ f. AccessFails J.has_noted key is_read (owes self.old.core) self.old self.new f) }
+        ensures ok { OnOk result (Loads J.has_noted key place buf.new self.old self.new) }
+        ensures err { IfErr result (LoadFails J.has_noted key self.old self.new) }
         ensures fault { IfErr result (λ f. NamesCount self.old.core self.new.core f) }
         ensures counts { CountsGrow self.old.core self.new.core }
     {
         model_laws();
-        while !self.loaded(key, place, buf) {
+        while !self.try_load(key, place, buf) {
             match self.serve(scratch, key) {
                 Ok(()) => {}
                 Err(fault) => return Err(fault),
@@ -79,24 +78,23 @@ impl<S: Store, J: Journal> SerialStripe<S, J> {
         requires in_page { InPage self.old.core.setup key place (length bytes.now) }
         requires writable { is_writable self.old.core.setup key.region ≡ true }
         ensures rest { IsAtRest self.new.core }
-        ensures fixed { self.new.core.setup ≡ self.old.core.setup }
-        ensures made { J.made_with self.new.journal ≡ J.made_with self.old.journal }
+        ensures fixed { fixed_of J.made_with self.new ≡ fixed_of J.made_with self.old }
         ensures few { self.new.core.events ≤ self.old.core.events + 2 ^ 16 }
 
         // what the pages hold
-        ensures bytes { OnOk result (held self.new.core key ≡ option_map (λ page. spliced page place bytes.now) (held self.old.core key)) }
-        ensures others { OnOk result ((j : Key) → has_page self.old.core.setup j ≡ true → (j ≡ key → ⊥) → held self.new.core j ≡ held self.old.core j) }
+        ensures bytes { OnOk result (held self.new.core key ≡ stored_over (held self.old.core key) place bytes.now) }
+        ensures others { OnOk result (HoldsOthers key self.old.core self.new.core) }
         ensures untouched { OnErr result (HoldsSame self.old.core self.new.core) }
         ensures owes { (j : Key) → owes self.new.core j ≡ true → owes_with self.old.core key j ≡ true }
 
         // the entries, and the store's faults
-        ensures ok { OnOk result (WentTo J.has_noted (serves key is_for_store) (entry.Save key place bytes.now) self.old self.new) }
-        ensures err { IfErr result (λ f. AccessFails J.has_noted key is_for_store (owes_with self.old.core key) self.old self.new f) }
+        ensures ok { OnOk result (Stores J.has_noted key place bytes.now self.old self.new) }
+        ensures err { IfErr result (StoreFails J.has_noted key self.old self.new) }
         ensures fault { IfErr result (λ f. NamesCount self.old.core self.new.core f) }
         ensures counts { CountsGrow self.old.core self.new.core }
     {
         model_laws();
-        while !self.saved(key, place, bytes) {
+        while !self.try_store(key, place, bytes) {
             match self.serve(scratch, key) {
                 Ok(()) => {}
                 Err(fault) => return Err(fault),
@@ -106,7 +104,7 @@ impl<S: Store, J: Journal> SerialStripe<S, J> {
     }
 
     /// Loads where the page is resident. Where it isn't, it waits from now on to be read in.
-    fn loaded(&mut self, key: Key, place: u32, buf: &mut [u8]) -> bool
+    fn try_load(&mut self, key: Key, place: u32, buf: &mut [u8]) -> bool
         requires rest { IsAtRest self.old.core }
         requires few { self.old.core.events < 2 ^ 62 }
         requires in_page { InPage self.old.core.setup key place (length buf.old) }
@@ -142,7 +140,7 @@ impl<S: Store, J: Journal> SerialStripe<S, J> {
     }
 
     /// Stores where the page is resident and open to stores. Where it isn't, it waits from now on to be read in or opened.
-    fn saved(&mut self, key: Key, place: u32, bytes: &[u8]) -> bool
+    fn try_store(&mut self, key: Key, place: u32, bytes: &[u8]) -> bool
         requires rest { IsAtRest self.old.core }
         requires few { self.old.core.events < 2 ^ 62 }
         requires in_page { InPage self.old.core.setup key place (length bytes.now) }

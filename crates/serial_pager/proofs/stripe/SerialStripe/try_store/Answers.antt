@@ -7,7 +7,7 @@ use Rattle.serial_pager.specs.InsideGoings.{WentBy}
 use Rattle.serial_pager.specs.Rests.{IsAtRest}
 use Rattle.serial_pager.proofs.Goes.{seen, went_once}
 use Rattle.serial_pager.proofs.Rests.{rests_alike}
-use Rattle.serial_pager.proofs.stripe.SerialStripe.saved.Goals as goal
+use Rattle.serial_pager.proofs.stripe.SerialStripe.try_store.Goals as goal
 
 pub returns-in-Hit-clause-rest : goal.returns-in-Hit-clause-rest
 returns-in-Hit-clause-rest g c =

@@ -6,7 +6,7 @@ use Rattle.serial_pager.specs.InsideGoings.{WentBy}
 use Rattle.serial_pager.specs.Rests.{IsAtRest}
 use Rattle.serial_pager.proofs.Goes.{seen, went_once}
 use Rattle.serial_pager.proofs.Rests.{rests_alike}
-use Rattle.serial_pager.proofs.stripe.SerialStripe.loaded.Goals as goal
+use Rattle.serial_pager.proofs.stripe.SerialStripe.try_load.Goals as goal
 
 pub returns-in-Hit-clause-rest : goal.returns-in-Hit-clause-rest
 returns-in-Hit-clause-rest g c =

@@ -1,46 +1,37 @@
 //! The calls of a pager: loads and stores of one piece of a page, and writing all dirty pages.
-ghost use Rattle.std.specs.Prelude.{◌≡◌, ◌≤◌, ◌<◌, ◌+◌, ◌^◌, ◌⊎◌, ℕ, true, false, length, map, slice_range, slice_get, Some, OnOk, OnErr, IfErr, IfSome, option_map};
+ghost use Rattle.std.specs.Prelude.{◌≡◌, ◌≤◌, ◌<◌, ◌+◌, ◌^◌, ◌⊎◌, true, false, length, OnOk, OnErr, IfErr};
 ghost use Rattle.page_base.specs.declared.keys.Key.{Key};
-ghost use Rattle.page_base.specs.ListSeen.{spliced};
-ghost use Rattle.page_model.specs.declared.entry.Entry.TheVariants as entry;
-ghost use Rattle.serial_pager.specs.Accesses.{serves, is_read, AccessFails};
-ghost use Rattle.serial_pager.specs.Goings.{WentTo};
-ghost use Rattle.serial_pager.specs.Holdings as one;
-ghost use Rattle.serial_pager.specs.Holdings.{is_for_store};
-ghost use Rattle.page_model.specs.Setups.{regions};
-ghost use Rattle.serial_pager.specs.InsideSound.{MayFlush, Flushes, FlushesAll, SomeRose};
-ghost use Rattle.serial_pager.specs.Pagers.{IsPiece, IsSame, IsWithin, OnStripe, WroteDirty, journals_made, HoldsSame, CountsGrow, NamesFault, RoseAt, IsTried, IsKept, has_page, is_writable, stripe_at, held, kept, owes};
+ghost use Rattle.page_base.specs.declared.limits.TheConstants.{MOST_STRIPES};
+ghost use Rattle.serial_pager.specs.Holdings.{AreBytesAt, stored_over};
+ghost use Rattle.serial_pager.specs.InsideSound.{MayFlushEach, FlushesEach, FlushesAll, AreStored, SomeRose, all_made};
+ghost use Rattle.serial_pager.specs.Pagers.{IsPiece, IsSame, IsWithin, LoadsPiece, StoresPiece, FailsToLoad, FailsToStore, ForEachLane, ForSomeLane, WroteDirty, journals_made, HoldsSame, HoldsOthers, KeepsUnowed, CountsGrow, NamesFault, RoseAt, IsTried, IsKept, has_page, is_writable, stripe_at, held, kept, owes};
 
 use crate::fault::PageFault;
 use crate::laws::model_laws;
 use crate::pager::SerialPager;
 use crate::stripe::SerialStripe;
-use page_base::Key;
+use page_base::{Key, MOST_STRIPES};
 use page_model::Journal;
 use page_model::events::service_knows;
 use store_trait::Store;
-use stripe_core::StripeConfig;
 
 /// Writes each dirty page of each stripe once, and tells whether a write failed; `scratch` is one page.
 fn write_stripes<S: Store, J: Journal>(
     stripes: &mut Vec<SerialStripe<S, J>>,
     scratch: &mut [u8],
-    config: &mut StripeConfig,
 ) -> bool
-    requires few { length stripes.old.items ≤ 64 }
-    requires each { (s : ℕ) (x : _) → slice_get stripes.old.items s ≡ Some x → MayFlush config.old (length scratch.old) s x.core }
+    requires few { length stripes.old.items ≤ MOST_STRIPES }
+    requires each { MayFlushEach (length scratch.old) stripes.old.items }
     ensures count { length stripes.new.items ≡ length stripes.old.items }
-    ensures config { (n : ℕ) × (config.new ≡ record config.old { number = n }) }
-    ensures flushed { (s : ℕ) (x y : _) → slice_get stripes.old.items s ≡ Some x → slice_get stripes.new.items s ≡ Some y → Flushes x y }
-    ensures entries { FlushesAll J.has_noted result stripes.old.items stripes.new.items }
-    ensures made { map (λ x. J.made_with x.journal) stripes.new.items ≡ map (λ x. J.made_with x.journal) stripes.old.items }
+    ensures flushed { FlushesEach stripes.old.items stripes.new.items }
+    ensures entries { FlushesAll J.has_noted result (length stripes.old.items) stripes.old.items stripes.new.items }
+    ensures made { all_made J.made_with stripes.new.items ≡ all_made J.made_with stripes.old.items }
     ensures failed { result ≡ true → SomeRose stripes.old.items stripes.new.items }
-    ensures stored { result ≡ false → (s : ℕ) (y : _) → slice_get stripes.new.items s ≡ Some y → (r : ℕ) → r < regions y.core.setup → one.IsStored y.core r }
+    ensures stored { result ≡ false → AreStored stripes.new.items }
 {
     let mut failed = false;
     for stripe in 0..stripes.len() {
-        config.number = stripe as u32;
-        if stripes[stripe].write_dirty(scratch, config) {
+        if stripes[stripe].write_dirty(scratch) {
             failed = true;
         }
     }
@@ -76,14 +67,14 @@ impl<S: Store, J: Journal> SerialPager<S, J> {
         ensures within { IsWithin self.new }
 
         // what the pages hold
-        ensures bytes { OnOk result (IfSome (held self.old key) (λ page. buf.new ≡ slice_range page place (place + length buf.new))) }
+        ensures bytes { OnOk result (AreBytesAt (held self.old key) place buf.new) }
         ensures untouched { OnErr result (buf.new ≡ buf.old) }
         ensures held { HoldsSame self.old self.new }
         ensures owes { (k : Key) → owes self.new k ≡ true → owes self.old k ≡ true }
 
         // the entries of the page's stripe, and the store's faults
-        ensures ok { OnOk result (OnStripe (stripe_at self.old key) (WentTo J.has_noted (serves key is_read) (entry.Load key place buf.new)) self.old self.new) }
-        ensures err { IfErr result (λ f. OnStripe (stripe_at self.old key) (λ x y. AccessFails J.has_noted key is_read (one.owes x.core) x y f) self.old self.new) }
+        ensures ok { OnOk result (LoadsPiece J.has_noted key place buf.new self.old self.new) }
+        ensures err { IfErr result (FailsToLoad J.has_noted key self.old self.new) }
         ensures fault { IfErr result (λ f. NamesFault key self.old self.new f) }
         ensures counts { CountsGrow self.old self.new }
     {
@@ -104,14 +95,14 @@ impl<S: Store, J: Journal> SerialPager<S, J> {
         ensures within { IsWithin self.new }
 
         // what the pages hold
-        ensures bytes { OnOk result (held self.new key ≡ option_map (λ page. spliced page place bytes.now) (held self.old key)) }
-        ensures others { OnOk result ((k : Key) → has_page self.old k ≡ true → (k ≡ key → ⊥) → held self.new k ≡ held self.old k) }
+        ensures bytes { OnOk result (held self.new key ≡ stored_over (held self.old key) place bytes.now) }
+        ensures others { OnOk result (HoldsOthers key self.old self.new) }
         ensures untouched { OnErr result (HoldsSame self.old self.new) }
         ensures owes { (k : Key) → owes self.new k ≡ true → (owes self.old k ≡ true) ⊎ (k ≡ key) }
 
         // the entries of the page's stripe, and the store's faults
-        ensures ok { OnOk result (OnStripe (stripe_at self.old key) (WentTo J.has_noted (serves key is_for_store) (entry.Save key place bytes.now)) self.old self.new) }
-        ensures err { IfErr result (λ f. OnStripe (stripe_at self.old key) (λ x y. AccessFails J.has_noted key is_for_store (one.owes_with x.core key) x y f) self.old self.new) }
+        ensures ok { OnOk result (StoresPiece J.has_noted key place bytes.now self.old self.new) }
+        ensures err { IfErr result (FailsToStore J.has_noted key self.old self.new) }
         ensures fault { IfErr result (λ f. NamesFault key self.old self.new f) }
         ensures counts { CountsGrow self.old self.new }
     {
@@ -124,32 +115,28 @@ impl<S: Store, J: Journal> SerialPager<S, J> {
     /// Writes each dirty page once, stripe by stripe and there in rising order of region and page, and tells whether a write
     /// failed. The pages stay resident; a page whose write failed is dirty still.
     pub fn write_dirty(&mut self) -> bool
-        requires few { self.old.spent + 64 ≤ 2 ^ 44 }
+        requires few { self.old.spent + MOST_STRIPES ≤ 2 ^ 44 }
         ensures same { IsSame self.old self.new }
         ensures made { journals_made J.made_with self.new ≡ journals_made J.made_with self.old }
-        ensures spent { self.new.spent ≡ self.old.spent + 64 }
+        ensures spent { self.new.spent ≡ self.old.spent + MOST_STRIPES }
         ensures within { IsWithin self.new }
         ensures held { HoldsSame self.old self.new }
         ensures owes { (k : Key) → owes self.new k ≡ true → owes self.old k ≡ true }
         ensures entries { WroteDirty J.has_noted result self.old self.new }
         ensures counts { CountsGrow self.old self.new }
-        ensures tried { (s r : ℕ) → s < length self.old.stripes → r < length self.old.shapes → IsTried self.old self.new s r }
-        ensures failed { result ≡ true → (s : ℕ) × (r : ℕ) × (s < length self.old.stripes) × (r < length self.old.shapes) × RoseAt self.old self.new s r }
-        ensures stored { result ≡ false → (s r : ℕ) → s < length self.old.stripes → r < length self.old.shapes → IsKept self.new s r }
+        ensures tried { ForEachLane self.old (IsTried self.old self.new) }
+        ensures failed { result ≡ true → ForSomeLane self.old (RoseAt self.old self.new) }
+        ensures stored { result ≡ false → ForEachLane self.old (IsKept self.new) }
     {
         service_knows();
-        self.spent += 64;
-        write_stripes(
-            &mut self.stripes,
-            self.scratch.as_mut_slice(),
-            &mut self.config,
-        )
+        self.spent += MOST_STRIPES as u64;
+        write_stripes(&mut self.stripes, self.scratch.as_mut_slice())
     }
 
     /// A page that needn't be written is told by its lane as it is held. The call does nothing: its contract is what a caller
     /// asks for.
     pub fn unowed_is_kept(&self)
-        ensures kept { (k : Key) → has_page self.now k ≡ true → owes self.now k ≡ false → IfSome (held self.now k) (λ bytes. kept self.now k ≡ Some bytes) }
+        ensures kept { KeepsUnowed self.now }
     {
         model_laws();
         let _ = &self.stripes;

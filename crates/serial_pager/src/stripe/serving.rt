@@ -1,17 +1,16 @@
 //! The services of a stripe, one for each kind of what may be next. Each makes its entries and leaves every lane home.
-ghost use Rattle.std.specs.Prelude.{◌≡◌, ℕ, ◌+◌, ◌≤◌, ◌<◌, ◌^◌, ◌⊎◌, Bool, List, [], ◌∷◌, true, length, OnOk, IfErr};
+ghost use Rattle.std.specs.Prelude.{◌≡◌, ◌+◌, ◌≤◌, ◌<◌, ◌^◌, ◌⊎◌, [], ◌∷◌, true, length, OnOk, IfErr};
 ghost use Rattle.page_base.specs.declared.keys.Key.{Key};
 ghost use Rattle.page_base.specs.declared.keys.Why.{Why};
 ghost use Rattle.page_model.specs.declared.entry.Entry.TheVariants as entry;
 ghost use Rattle.page_model.specs.declared.entry.Cause.TheVariants.{Pressure};
 ghost use Rattle.page_model.specs.declared.seen.Next.TheVariants as serve;
-ghost use Rattle.page_model.specs.Core.{next, is_dirty};
+ghost use Rattle.page_model.specs.Core.{next};
 ghost use Rattle.page_model.specs.Events.{CanRaiseFor, CanStartWrite, CanEvict};
 ghost use Rattle.page_model.specs.Setups.{has_page};
 ghost use Rattle.page_model.specs.Steps as step;
-ghost use Rattle.serial_pager.specs.Accesses.{serves, AccessFails};
 ghost use Rattle.serial_pager.specs.Goings.{Went};
-ghost use Rattle.serial_pager.specs.InsideGoings.{WentBy};
+ghost use Rattle.serial_pager.specs.InsideGoings.{WentServing, WentRaising, WentServingAny, ServiceFails, ReadsIn, FailsToReadIn, WritesOut, FailsToWriteOut};
 ghost use Rattle.serial_pager.specs.Rests.{IsAtRest};
 ghost use Rattle.serial_pager.specs.InsideServices.{Drops, Opens, Fills, Misses, Writes, FailsToWrite, Cleans, FailsToClean, Evicts, Raises, Serves, Faults};
 
@@ -34,7 +33,7 @@ impl<S: Store, J: Journal> SerialStripe<S, J> {
         ensures made { J.made_with self.new.journal ≡ J.made_with self.old.journal }
         ensures waits { 0 < length self.new.core.queue }
         ensures steps { Raises key why self.old.core self.new.core }
-        ensures went { (reasons : Why → Bool) → reasons why ≡ true → WentBy J.has_noted (serves key reasons) self.old self.new }
+        ensures went { WentRaising J.has_noted key why self.old self.new }
     {
         model_laws();
         match self.stripe.raise(key, why) {
@@ -52,9 +51,9 @@ impl<S: Store, J: Journal> SerialStripe<S, J> {
         ensures rest { IsAtRest self.new.core }
         ensures made { J.made_with self.new.journal ≡ J.made_with self.old.journal }
         ensures steps { OnOk result (Serves key self.old.core self.new.core) }
-        ensures went { OnOk result ((reasons : Why → Bool) → WentBy J.has_noted (serves key reasons) self.old self.new) }
+        ensures went { OnOk result (WentServing J.has_noted key self.old self.new) }
         ensures fault { IfErr result (λ f. Faults key self.old.core self.new.core f) }
-        ensures ends { IfErr result (λ f. (reasons : Why → Bool) → AccessFails J.has_noted key reasons (is_dirty self.old.core) self.old self.new f) }
+        ensures ends { IfErr result (ServiceFails J.has_noted key self.old self.new) }
     {
         model_laws();
         match self.stripe.next() {
@@ -107,9 +106,9 @@ impl<S: Store, J: Journal> SerialStripe<S, J> {
         ensures rest { IsAtRest self.new.core }
         ensures made { J.made_with self.new.journal ≡ J.made_with self.old.journal }
         ensures steps { OnOk result (Serves key self.old.core self.new.core) }
-        ensures went { OnOk result ((reasons : Why → Bool) → WentBy J.has_noted (serves key reasons) self.old self.new) }
+        ensures went { OnOk result (WentServing J.has_noted key self.old self.new) }
         ensures fault { IfErr result (λ f. Faults key self.old.core self.new.core f) }
-        ensures ends { IfErr result (λ f. (reasons : Why → Bool) → AccessFails J.has_noted key reasons (is_dirty self.old.core) self.old self.new f) }
+        ensures ends { IfErr result (ServiceFails J.has_noted key self.old self.new) }
     {
         match self.read_in(scratch) {
             Err(fault) if fault.key == key => Err(fault),
@@ -126,9 +125,9 @@ impl<S: Store, J: Journal> SerialStripe<S, J> {
         ensures rest { IsAtRest self.new.core }
         ensures made { J.made_with self.new.journal ≡ J.made_with self.old.journal }
         ensures steps { OnOk result (Fills self.old.core self.new.core) }
-        ensures went { OnOk result ((k : Key) × Went J.has_noted (entry.Filled k ∷ entry.StartRead k ∷ []) self.old self.new) }
+        ensures went { OnOk result (ReadsIn J.has_noted self.old self.new) }
         ensures fault { IfErr result (λ f. Misses self.old.core self.new.core f) }
-        ensures ends { IfErr result (λ f. Went J.has_noted (entry.ReadFailed f.key f.faults ∷ entry.StartRead f.key ∷ []) self.old self.new) }
+        ensures ends { IfErr result (FailsToReadIn J.has_noted self.old self.new) }
     {
         model_laws();
         let mut trip = self.stripe.start_read();
@@ -160,9 +159,9 @@ impl<S: Store, J: Journal> SerialStripe<S, J> {
         ensures rest { IsAtRest self.new.core }
         ensures made { J.made_with self.new.journal ≡ J.made_with self.old.journal }
         ensures steps { OnOk result (Cleans self.old.core self.new.core ⊎ Evicts self.old.core self.new.core) }
-        ensures went { OnOk result ((k : Key) (reasons : Why → Bool) → WentBy J.has_noted (serves k reasons) self.old self.new) }
+        ensures went { OnOk result (WentServingAny J.has_noted self.old self.new) }
         ensures fault { IfErr result (λ f. FailsToClean self.old.core self.new.core f) }
-        ensures ends { IfErr result (λ f. Went J.has_noted (entry.WriteFailed f.key f.faults ∷ entry.StartWrite f.key Pressure ∷ []) self.old self.new) }
+        ensures ends { IfErr result (λ f. FailsToWriteOut J.has_noted f.key Pressure self.old self.new f) }
     {
         model_laws();
         match self.stripe.pick() {
@@ -190,9 +189,9 @@ impl<S: Store, J: Journal> SerialStripe<S, J> {
         ensures rest { IsAtRest self.new.core }
         ensures made { J.made_with self.new.journal ≡ J.made_with self.old.journal }
         ensures steps { OnOk result (Writes key self.old.core self.new.core) }
-        ensures went { OnOk result ((at : ℕ) × (bytes : List ℕ) × Went J.has_noted (entry.Written key at bytes ∷ entry.StartWrite key why ∷ []) self.old self.new) }
+        ensures went { OnOk result (WritesOut J.has_noted key why self.old self.new) }
         ensures fault { IfErr result (λ f. FailsToWrite key self.old.core self.new.core f) }
-        ensures ends { IfErr result (λ f. Went J.has_noted (entry.WriteFailed key f.faults ∷ entry.StartWrite key why ∷ []) self.old self.new) }
+        ensures ends { IfErr result (FailsToWriteOut J.has_noted key why self.old self.new) }
     {
         model_laws();
         let mut trip = self.stripe.start_write(key, why, scratch);
