@@ -210,33 +210,6 @@ order_same f g a b m same o = record {
   serve = o.serve;
 }
 
--- ---- pieces that share bytes out
-
-module _ (access : Key → ℕ → List ℕ → Entry) where
-  pub accesses_snoc : (ps : List Piece) (p : Piece) (bytes : List ℕ) (n : ℕ) → sum_by (λ (q : Piece). q.len) ps ≡ n → accesses_by access (ps ++ p ∷ []) bytes ≡ accesses_by access ps bytes ++ access p.key p.place (take p.len (drop n bytes)) ∷ []
-  accesses_snoc [] p bytes n e = ap (λ (m : ℕ). access p.key p.place (take p.len (drop m bytes)) ∷ []) e
-  accesses_snoc (q ∷ ps) p bytes n e =
-      ap (λ (es : List Entry). access q.key q.place (take q.len bytes) ∷ es)
-      (accesses_snoc ps p (drop q.len bytes) (sum_by (λ (r : Piece). r.len) ps) refl
-      ∙ ap (λ (xs : List ℕ). accesses_by access ps (drop q.len bytes) ++ access p.key p.place (take p.len xs) ∷ []) (drop-drop (sum_by (λ (r : Piece). r.len) ps) q.len bytes ∙ ap (λ (m : ℕ). drop m bytes) (omega (arith, e, sum_by-cons (λ (r : Piece). r.len) q ps))))
-
-  -- the bytes past the pieces don't matter
-  pub accesses_front : (ps : List Piece) (xs ys : List ℕ) → sum_by (λ (q : Piece). q.len) ps ≤ length xs → accesses_by access ps (xs ++ ys) ≡ accesses_by access ps xs
-  accesses_front [] xs ys le = refl
-  accesses_front (q ∷ ps) xs ys le =
-      let more = sum_by-cons (λ (r : Piece). r.len) q ps in
-      ap (λ (zs : List ℕ). access q.key q.place zs ∷ accesses_by access ps (drop q.len (xs ++ ys))) (take-append-le q.len xs ys (omega (arith, le, more)))
-      ∙ ap (λ (zs : List ℕ). access q.key q.place (take q.len xs) ∷ accesses_by access ps zs) (drop-append-le q.len xs ys (omega (arith, le, more)))
-      ∙ ap (λ (es : List Entry). access q.key q.place (take q.len xs) ∷ es) (accesses_front ps (drop q.len xs) ys (omega (arith, le, more, length-drop q.len xs)))
-
--- one more piece of a load, with the bytes that it gave
-pub loads_more : (ps : List Piece) (p : Piece) (xs ys : List ℕ) → sum_by (λ (q : Piece). q.len) ps ≡ length xs → length ys ≡ p.len → loads (ps ++ p ∷ []) (xs ++ ys) ≡ loads ps xs ++ Load p.key p.place ys ∷ []
-loads_more ps p xs ys e f =
-    let access : Key → ℕ → List ℕ → Entry = λ k place its. Load k place its in
-    accesses_snoc access ps p (xs ++ ys) (length xs) e
-    ∙ ap (λ (es : List Entry). es ++ Load p.key p.place (take p.len (drop (length xs) (xs ++ ys))) ∷ []) (accesses_front access ps xs ys (omega (arith, e)))
-    ∙ ap (λ (zs : List ℕ). loads ps xs ++ Load p.key p.place zs ∷ []) (ap (take p.len) (drop-append_seam xs ys) ∙ take_all p.len ys (omega (arith, f)))
-
 -- ---- accesses on a pager
 
 module _ {J : Type 0} (has_noted : J → History Entry → Type 0) where

@@ -13,7 +13,8 @@ use Rattle.page_base.specs.declared.keys.RegionShape.{RegionShape}
 use Rattle.page_base.specs.Lanes.{Rose}
 use Rattle.page_base.specs.Pages.{stripe_of}
 use Rattle.page_model.specs.Setups.{pages_of}
-use Rattle.region_table.specs.Covers.{AreJoined, CoversRange, IsPieceAt}
+use Rattle.page_model.specs.Pieces.{bytes_in}
+use Rattle.region_table.specs.Covers.{IsNext}
 use Rattle.region_table.specs.Pieces.{pieces_of}
 use Rattle.page_base.specs.declared.keys.Piece.{Piece}
 use Rattle.store_trait.specs.Memory.{page_of}
@@ -78,80 +79,30 @@ held_more p q z s a b k page = b k (same_page p q s k ∙ page) ∙ a k page
 
 -- ---- where a piece lies
 
--- a piece of a range of `len` bytes from `off` on, behind pieces of `done` bytes
-pub record IsNext (size region off len done : ℕ) (p : Piece) : Type 0 where
-  pub of_region : p.key.region ≡ region
-  pub begins : p.key.page * size + p.place ≡ off + done
-  pub some : 1 ≤ p.len
-  pub within : p.place + p.len ≤ size
-  pub short : done + p.len ≤ len
-  pub border : (done ≡ 0) ⊎ (p.place ≡ 0)
-
--- the bytes of some pieces together
-abbrev pub lengths : List Piece → ℕ
-lengths ps = sum_by (λ (p : Piece). p.len) ps
-
-joined_at : (size region off : ℕ) (front : List Piece) (p : Piece) (rest : List Piece) → AreJoined size region off (front ++ p ∷ rest) → IsPieceAt size region (off + lengths front) p
-joined_at size region off [] p rest h = subst (λ n. IsPieceAt size region n p) (omega arith) h.0
-joined_at size region off (q ∷ qs) p rest h = subst (λ n. IsPieceAt size region n p) (omega (arith, sum_by-cons (λ (r : Piece). r.len) q qs)) (joined_at size region (off + q.len) qs p rest h.1)
-
-rest_rises : (x : ℕ) (xs : List ℕ) → IsStrictlyIncreasing (x ∷ xs) → IsStrictlyIncreasing xs
-rest_rises x xs h k below =
-    let next : suc k + 1 ≡ suc (k + 1) = omega arith in
-    subst (λ n. slice_index (x ∷ xs) (suc k) < slice_index (x ∷ xs) n) next (h (suc k) (omega (arith, below)))
-
-at_border : (size region off : ℕ) (front : List Piece) (p : Piece) (rest : List Piece) → AreJoined size region off (front ++ p ∷ rest) → IsStrictlyIncreasing (map (λ (q : Piece). q.key.page) (front ++ p ∷ rest)) → (front ≡ []) ⊎ (p.place ≡ 0)
-at_border size region off [] p rest joined rises = inl refl
-at_border size region off (q ∷ []) p rest joined rises =
-    let first = joined.0 in
-    let next = joined.1.0 in
-    inr (omega (arith, first.begins, first.within, next.begins, rows_apart q.key.page p.key.page size (rises 0 (omega arith))))
-at_border size region off (q ∷ (q2 ∷ qs)) p rest joined rises = elim (at_border size region (off + q.len) (q2 ∷ qs) p rest joined.1 (rest_rises q.key.page (map (λ (r : Piece). r.key.page) ((q2 ∷ qs) ++ p ∷ rest)) rises)) [
-  | inl none ↦ absurd (cc)
-  | inr place ↦ inr place
-]
-
-pub next_piece : (size region off len done : ℕ) (front : List Piece) (p : Piece) (rest : List Piece) → CoversRange size region off len (pieces_of size region off len) → pieces_of size region off len ≡ front ++ p ∷ rest → lengths front ≡ done → IsNext size region off len done p
-next_piece size region off len done front p rest covers is sum =
-    let joined : AreJoined size region off (front ++ p ∷ rest) = subst (AreJoined size region off) is covers.joined in
-    let at : IsPieceAt size region (off + lengths front) p = joined_at size region off front p rest joined in
-    let total : lengths (front ++ p ∷ rest) ≡ len = ap lengths (sym is) ∙ covers.lengths in
-    record {
-      of_region = at.of_region;
-      begins = omega (arith, at.begins, sum);
-      some = at.some;
-      within = at.within;
-      short = omega (arith, total, sum, sum_by-append (λ (r : Piece). r.len) front (p ∷ rest), sum_by-cons (λ (r : Piece). r.len) p rest);
-      border = elim (at_border size region off front p rest joined (subst (λ ps. IsStrictlyIncreasing (map (λ (q : Piece). q.key.page) ps)) is covers.rising)) [
-        | inl none ↦ inl (sym sum ∙ ap lengths none)
-        | inr place ↦ inr place
-      ];
-    }
-
--- behind all pieces all bytes are done
-pub all_done : (size region off len done : ℕ) (front : List Piece) → CoversRange size region off len (pieces_of size region off len) → pieces_of size region off len ≡ front ++ [] → lengths front ≡ done → done ≡ len
-all_done size region off len done front covers is sum = sym sum ∙ ap lengths (sym (is ∙ append-nil front)) ∙ covers.lengths
+-- the bytes of all pieces together, where these are all
+pub all_bytes : (size region off len done : ℕ) (front : List Piece) → pieces_of size region off len ≡ front ++ [] → bytes_in front ≡ done → bytes_in (pieces_of size region off len) ≡ done
+all_bytes size region off len done front is sum = ap bytes_in (is ∙ append-nil front) ∙ sum
 
 module _ (size region off len done : ℕ) (piece : Piece) (next : IsNext size region off len done piece) where
   place_below : piece.place < size
-  place_below = omega (arith, next.some, next.within)
+  place_below = omega (arith, next.at.some, next.at.within)
 
   pub key_is : piece.key ≡ key_of region piece.key.page
-  key_is = ap (λ r. key_of r piece.key.page) next.of_region
+  key_is = ap (λ r. key_of r piece.key.page) next.at.of_region
 
   -- the piece begins at byte `off + done` of the region
   pub page_is : (off + done) / size ≡ piece.key.page
-  page_is = ap (λ n. n / size) (sym next.begins) ∙ div-mul-add piece.key.page size piece.place place_below
+  page_is = ap (λ n. n / size) (sym next.at.begins) ∙ div-mul-add piece.key.page size piece.place place_below
 
   pub border_is : (done ≡ 0) ⊎ ((off + done) % size ≡ 0)
   border_is = elim next.border [
     | inl e ↦ inl e
-    | inr e ↦ inr (ap (λ n. n % size) (sym next.begins) ∙ mod-mul-add piece.key.page size piece.place place_below ∙ e)
+    | inr e ↦ inr (ap (λ n. n % size) (sym next.at.begins) ∙ mod-mul-add piece.key.page size piece.place place_below ∙ e)
   ]
 
   module _ {J : Type 0} (p q : PagerSeen J) (range : IsRange p region off len) (s : IsSame p q) (sized : p.page_size ≡ size) where
     pub page_below : piece.key.page < pages_at p region
-    page_below = row_below piece.key.page (pages_at p region) size piece.place (omega (arith, next.begins, next.short, next.some, range.inside, ap (λ z. pages_at p region * z) sized))
+    page_below = row_below piece.key.page (pages_at p region) size piece.place (omega (arith, next.at.begins, next.short, next.at.some, range.inside, ap (λ z. pages_at p region * z) sized))
 
     pub has_piece : has_page p piece.key ≡ true
     has_piece = ap (has_page p) key_is ∙ page_in_of (slice_get p.shapes region) piece.key.page page_below
@@ -159,8 +110,8 @@ module _ (size region off len done : ℕ) (piece : Piece) (next : IsNext size re
     pub is_piece : IsPiece q piece.key piece.place piece.len
     is_piece = record {
       page = same_page p q s piece.key ∙ has_piece;
-      some = next.some;
-      within = subst (λ z. piece.place + piece.len ≤ z) (sym (s.page_size ∙ sized)) next.within;
+      some = next.at.some;
+      within = subst (λ z. piece.place + piece.len ≤ z) (sym (s.page_size ∙ sized)) next.at.within;
     }
 
 -- ---- faults
@@ -175,7 +126,7 @@ faults_at p q z region off len done size piece stores f next goes owed sized nam
     let to : stripe_at q piece.key ≡ stripe_at p f.key = sym names.stripe ∙ same_stripe p q goes.same f.key in
     record {
       ends = record {
-        short = omega (arith, next.some, next.short);
+        short = omega (arith, next.at.some, next.short);
         border = subst (λ n. (done ≡ 0) ⊎ ((off + done) % n ≡ 0)) (sym sized) (border_is size region off len done piece next);
       };
       page = sym (same_page p q goes.same f.key) ∙ names.page;

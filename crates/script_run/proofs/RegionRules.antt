@@ -18,7 +18,7 @@ use Rattle.workload_text.specs.declared.workload.Command.TheVariants.{Load, Stor
 use Rattle.workload_text.specs.declared.workload.Script.{Script}
 use Rattle.workload_text.specs.declared.workload.Workload.{Workload}
 use Rattle.script_run.specs.Fits.{has_whole_pages}
-use Rattle.script_run.specs.Tables.{regions_seen, table_of}
+use Rattle.script_run.specs.Tables.{regions_seen}
 use Rattle.script_run.specs.RegionRules.{region_seen, rule, or_behind, region_refusal}
 use Rattle.script_run.specs.declared.regions.RegionKind.{RegionKind}
 use Rattle.script_run.specs.declared.regions.RegionRefusal.{RegionRefusal}
@@ -43,14 +43,6 @@ maps_seen (m ∷ ms) ls = ap (λ (rs : List RegionSeen). region_seen m ∷ rs) (
 
 pub seen_are : (w : Workload) → regions_seen (lines_of w) ≡ map region_seen w.maps.items
 seen_are w = maps_seen w.maps.items (flat_map script_lines w.scripts.items) ∙ ap (λ (rs : List RegionSeen). map region_seen w.maps.items ++ rs) (scripts_seen w.scripts.items) ∙ append-nil (map region_seen w.maps.items)
-
--- so the table of all `map` lines is that of the workload's lines
-pub table_is : (z page_size : ℕ) (slice : List MapLine) (w : Workload) (t : TableSeen) → t ≡ record { page_size = z; regions = map region_seen slice } → z ≡ page_size → slice ≡ w.maps.items → t ≡ table_of page_size (lines_of w)
-table_is z page_size slice w t made sized same =
-    made
-    ∙ ap (λ (n : ℕ). let y : TableSeen = record { page_size = n; regions = map region_seen slice } in y) sized
-    ∙ ap (λ (ms : List MapLine). let y : TableSeen = record { page_size = page_size; regions = map region_seen ms } in y) same
-    ∙ ap (λ (rs : List RegionSeen). let y : TableSeen = record { page_size = page_size; regions = rs } in y) (sym (seen_are w))
 
 -- each stands on a line
 pub same_count : (n : ℕ) (ts : List TextLine) → length (map_numbers n ts) ≡ length (regions_seen (lines_in ts))

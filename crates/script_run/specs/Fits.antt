@@ -1,11 +1,14 @@
 -- Which lanes go with a layout and with the regions of a workload.
 use Rattle.std.specs.Prelude.{◌≡◌, ℕ, ◌/◌, ◌%◌, ◌==◌, ◌<◌, ◌≤◌, Bool, true, List, [], map, length, slice_index_or}
 use Rattle.std.specs.List.{list_all, enumerate_from}
+use Rattle.page_base.specs.declared.limits.TheConstants.{MOST_FAULTS}
 use Rattle.page_base.specs.Lanes.{Origin, LaneSeen}
 use Rattle.page_base.specs.declared.layout.Layout.{Layout}
 use Rattle.store_trait.specs.Memory.{memory_origin}
 use Rattle.script_run.specs.Contents.{origins_of}
+use Rattle.workload_text.specs.Line.{Line}
 use Rattle.workload_text.specs.Grammar.{Region}
+use Rattle.workload_text.specs.Accepted.{regions_of}
 use Rattle.script_run.specs.declared.settings.Settings.{Settings}
 
 -- every region is a number of whole pages
@@ -27,9 +30,13 @@ pub record FitLanes (layout : Layout) (regions : List Region) (rows : List (List
   pub whole : has_whole_pages layout.page_size regions ≡ true
   pub lanes : (s : ℕ) → s < length rows → slice_index_or (origins_of rows) s [] ≡ row_origins layout.page_size (length rows) s (pages_of layout.page_size regions)
 
+-- the lanes go with the settings' layout and with the regions of these lines
+abbrev pub LanesFit : Settings → List Line → (rows : List (List LaneSeen)) → Type 0
+LanesFit settings lines rows = FitLanes settings.layout (regions_of lines) rows
+
 -- the watermarks and the number of faults that may wait are in their ranges
 pub record AreInRange (s : Settings) : Type 0 where
   pub some_fault : 1 ≤ s.faults
-  pub few_faults : s.faults ≤ 4096
+  pub few_faults : s.faults ≤ MOST_FAULTS
   pub marks : s.low < s.high
   pub percent : s.high ≤ 100

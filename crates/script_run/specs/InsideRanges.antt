@@ -1,5 +1,5 @@
 -- Ranges of a region's bytes on a pager: what a load or a store of one asks for, what it makes, and how it fails.
-use Rattle.std.specs.Prelude.{◌≡◌, ℕ, ◌+◌, ◌*◌, ◌^◌, ◌<◌, ◌≤◌, ◌⊎◌, true, List, [], ◌∷◌, length, slice_get, slice_index, Some}
+use Rattle.std.specs.Prelude.{◌≡◌, ℕ, ◌+◌, ◌*◌, ◌^◌, ◌<◌, ◌≤◌, ◌⊎◌, true, List, [], ◌∷◌, length, take, drop, slice_get, slice_index, Some}
 use Rattle.page_base.specs.declared.keys.Key.{Key}
 use Rattle.page_base.specs.Lanes.{Rose}
 use Rattle.histories.specs.Histories.{History}
@@ -10,9 +10,13 @@ use Rattle.region_table.specs.Regions.{TableSeen, lengths_of}
 use Rattle.store_trait.specs.Memory.{page_of}
 use Rattle.serial_pager.specs.declared.fault.PageFault.{PageFault}
 use Rattle.serial_pager.specs.Pagers.{PagerSeen, has_page, stripe_at, held, owes, count_at, IsSame, CountsGrow, WentAll}
-use Rattle.script_run.specs.FitsSerial.{EndsAt, piece_key}
+use Rattle.script_run.specs.FitsSerial.{StoresTo, EndsAt, piece_key}
 use Rattle.script_run.specs.LineEntries.{Fails, MakesInOrder}
-use Rattle.page_model.specs.Pieces.{AreBefore, accesses_by}
+use Rattle.page_base.specs.ListSeen.{spliced}
+use Rattle.page_model.specs.declared.entry.Entry.TheVariants.{Load, Save}
+use Rattle.page_model.specs.Pieces.{AreBefore, accesses_by, loads, saves}
+use Rattle.region_table.specs.Pieces.{pieces_of}
+use Rattle.workload_text.specs.Line.{store_line}
 
 abbrev pub key_of : (region page : ℕ) → Key
 key_of region page = record { region = region; page = page }
@@ -67,3 +71,42 @@ module _ {J : Type 0} where
     pub failure : Entry
     pub fails : Fails ended f.key f.faults failure
     pub goes : GoesBy has_noted (accesses_by access pieces bytes) (failure ∷ []) old new
+
+  -- ---- a load of a range
+
+  -- these are the range's bytes, whatever bytes the region holds
+  abbrev pub AreBytesOf : (p : PagerSeen J) (region off len : ℕ) → List ℕ → Type 0
+  AreBytesOf p region off len got = (bytes : List ℕ) → HoldsRegion p region bytes → got ≡ take len (drop off bytes)
+
+  -- the stripes made the loads of its pieces, with these bytes
+  abbrev pub LoadsRange : (has_noted : J → History Entry → Type 0) → (region off len : ℕ) → List ℕ → (old new : PagerSeen J) → Type 0
+  LoadsRange has_noted region off len bytes old new = GoesBy has_noted (loads (pieces_of old.page_size region off len) bytes) [] old new
+
+  -- a load of it ended at a piece, having loaded the pieces before
+  abbrev pub LoadBreaks : (has_noted : J → History Entry → Type 0) → (region off len : ℕ) → PageFault → (old new : PagerSeen J) → Type 0
+  LoadBreaks has_noted region off len f old new =
+      (done : ℕ) × FaultsAt old new region off len (λ k. ⊥) done f
+      × (bytes : List ℕ) × (length bytes ≡ done)
+      × BreaksOff has_noted (λ k place its. Load k place its) (pieces_of old.page_size region off len) bytes (piece_key old.page_size region (off + done)) done f old new
+
+  -- ---- a store of these bytes to a range
+
+  -- a page that may have to be written had to before, or the bytes are stored to it
+  abbrev pub OwesByStore : (region off : ℕ) → List ℕ → (old new : PagerSeen J) → Type 0
+  OwesByStore region off bytes old new =
+      (k : Key) → owes new k ≡ true → (owes old k ≡ true) ⊎ StoresTo old.page_size k (store_line region off bytes)
+
+  -- whatever the region held, it holds that with the bytes written over it
+  abbrev pub WritesOver : (region off : ℕ) → List ℕ → (old new : PagerSeen J) → Type 0
+  WritesOver region off bytes old new = (b : List ℕ) → HoldsRegion old region b → HoldsRegion new region (spliced b off bytes)
+
+  -- the stripes made the stores of its pieces
+  abbrev pub SavesRange : (has_noted : J → History Entry → Type 0) → (region off : ℕ) → List ℕ → (old new : PagerSeen J) → Type 0
+  SavesRange has_noted region off bytes old new = GoesBy has_noted (saves (pieces_of old.page_size region off (length bytes)) bytes) [] old new
+
+  -- a store ended at a piece, having stored to the pieces before
+  abbrev pub StoreBreaks : (has_noted : J → History Entry → Type 0) → (region off : ℕ) → List ℕ → PageFault → (old new : PagerSeen J) → Type 0
+  StoreBreaks has_noted region off bytes f old new =
+      (done : ℕ) × FaultsAt old new region off (length bytes) (λ k. StoresTo old.page_size k (store_line region off bytes)) done f
+      × WritesOver region off (take done bytes) old new
+      × BreaksOff has_noted (λ k place its. Save k place its) (pieces_of old.page_size region off (length bytes)) bytes (piece_key old.page_size region (off + done)) done f old new

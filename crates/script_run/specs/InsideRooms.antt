@@ -1,22 +1,32 @@
 -- The room that replies take in the text, a fault in place of any of them.
 use Rattle.std.specs.Prelude.{ℕ, ◌+◌, ◌*◌, max, List, [], ◌∷◌, length}
 use Rattle.workload_text.specs.Line.{Line, map_line, script_line, load_line}
-use Rattle.workload_text.specs.Grammar.{Region}
+use Rattle.workload_text.specs.Grammar.{Region, name_at}
+use Rattle.workload_text.specs.Accepted.{regions_of}
+use Rattle.workload_text.specs.View.{lines_of}
+use Rattle.workload_text.specs.declared.workload.Workload.{Workload}
+use Rattle.serial_pager.specs.declared.fault.PageFault.{PageFault}
+use Rattle.script_run.specs.Replies.{fault_reply}
+use Rattle.script_run.specs.declared.rooms.TheConstants.{FAULT_ROOM, SCRIPT_ROOM, LOAD_ROOM}
 
 abbrev pub longest_name : List Region → ℕ
 longest_name [] = 0
 longest_name (g ∷ gs) = max (length g.name) (longest_name gs)
 
--- the most that a line which names a fault takes: a page has at most 10 digits, a count at most 20
+-- the most that a line which names a fault takes
 abbrev pub fault_room : List Region → ℕ
-fault_room gs = longest_name gs + 39
+fault_room gs = longest_name gs + FAULT_ROOM
 
 abbrev pub room : List Region → Line → ℕ
 room gs (map_line name kept size writable) = 0
-room gs (script_line name) = length name + 8
-room gs (load_line r off len) = max (2 * len + 6) (fault_room gs)
+room gs (script_line name) = length name + SCRIPT_ROOM
+room gs (load_line r off len) = max (2 * len + LOAD_ROOM) (fault_room gs)
 room gs l = fault_room gs
 
 abbrev pub rooms : List Region → List Line → ℕ
 rooms gs [] = 0
 rooms gs (l ∷ ls) = room gs l + rooms gs ls
+
+-- what tells a fault of a workload's region
+abbrev pub fault_of : Workload → PageFault → List ℕ
+fault_of w f = fault_reply (name_at (regions_of (lines_of w)) f.key.region) f.key.page f.faults

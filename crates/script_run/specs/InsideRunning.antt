@@ -12,7 +12,11 @@ use Rattle.region_table.specs.Regions.{TableSeen}
 use Rattle.serial_pager.specs.Seen.{StripeSeen}
 use Rattle.serial_pager.specs.Pagers as pagers
 use Rattle.serial_pager.specs.Pagers.{PagerSeen, core_at, owes, count_at, IsSame, WentAll}
+use Rattle.workload_text.specs.declared.limits.TheConstants.{MOST_MEMORY_BYTES, MOST_ACCESS_BYTES, MOST_LOADED_BYTES}
 use Rattle.workload_text.specs.Line.{Line}
+use Rattle.workload_text.specs.View.{lines_of, command_line}
+use Rattle.workload_text.specs.declared.workload.Command.{Command}
+use Rattle.workload_text.specs.declared.workload.Workload.{Workload}
 use Rattle.workload_text.specs.Grammar.{Region, size_at}
 use Rattle.workload_text.specs.Accepted.{AllFit, IsRunnable, regions_of, loaded_bytes, command_count}
 use Rattle.workload_text.specs.Built.{is_built}
@@ -45,7 +49,7 @@ module _ {J : Type 0} where
     pub stripes : length p.stripes ≡ t.stripes
     pub shapes : p.shapes ≡ map (shape_of t.page_size) gs
     pub whole : (r : ℕ) → r < length gs → size_at gs r ≡ pages_at p r * p.page_size
-    pub small : (r : ℕ) → size_at gs r ≤ 16777216
+    pub small : (r : ℕ) → size_at gs r ≤ MOST_MEMORY_BYTES
 
   -- the lines may run: they are built, their ranges lie inside the regions, and there is room for what they answer
   pub record MayRun (t : Spread) (gs : List Region) (lines : List Line) (replies : Replies) (p : PagerSeen J) : Type 0 where
@@ -53,8 +57,8 @@ module _ {J : Type 0} where
     pub fit : AllFit gs lines
     pub shaped : IsShaped t gs p
     pub room : rooms gs lines ≤ replies.text.spare
-    pub few : replies.loaded + loaded_bytes lines ≤ 33554432
-    pub pieces : p.spent + 65536 * command_count lines ≤ 2 ^ 44
+    pub few : replies.loaded + loaded_bytes lines ≤ MOST_LOADED_BYTES
+    pub pieces : p.spent + MOST_ACCESS_BYTES * command_count lines ≤ 2 ^ 44
 
   -- the told regions hold these bytes, and each page that may have to be written is stored to by one of these lines
   pub record Shows (t : Spread) (told : ℕ → Bool) (lines : List Line) (regions : List (List ℕ)) (p : PagerSeen J) : Type 0 where
@@ -74,7 +78,7 @@ module _ {J : Type 0} where
     pub answered : (told : ℕ → Bool) (regions : List (List ℕ)) → Shows t told before regions p → AllAnswer t told before regions lines replies × Shows t told (behind before lines) (left_by regions lines replies) q
     pub counts : (s r : ℕ) → CountsFit (count_at p s r) (counts_named t s r replies) (count_at q s r)
     pub same : IsSame p q
-    pub pieces : q.spent ≤ p.spent + 65536 * command_count lines
+    pub pieces : q.spent ≤ p.spent + MOST_ACCESS_BYTES * command_count lines
     -- what the stripes made, on top of whatever they had made
     pub made : ℕ → List Entry
     pub went : WentAll has_noted made p q
@@ -98,3 +102,27 @@ module _ {J : Type 0} where
     pub counts : (s r : ℕ) → s < c.layout.stripes → count_at p s r ≡ (lane_at rows s r).count
     pub made : (s : ℕ) → s < c.layout.stripes → pagers.setup_at p s ≡ Some (setup_at c p.shapes rows s)
     pub journals_are : map (λ (x : StripeSeen J). x.journal) p.stripes ≡ journals
+
+  -- the same, for the regions of whatever lines it may be opened for
+  abbrev pub OpensFor : Settings → TableSeen → (rows : List (List LaneSeen)) → List J → PagerSeen J → Type 0
+  OpensFor c table rows journals p = (lines : List Line) → MayOpen c table lines rows journals → OpensOn c (regions_of lines) rows journals p
+
+  -- ---- lines of a workload
+
+  -- the lines may run, however its pages are spread
+  abbrev pub MayRunOf : Workload → List Line → Replies → PagerSeen J → Type 0
+  MayRunOf w lines replies p = (t : Spread) × MayRun t (regions_of (lines_of w)) lines replies p
+
+  -- the lines ran, behind whatever lines
+  abbrev pub RanOf : (has_noted : J → History Entry → Type 0) → Workload → List Line → (old new : Replies) → (p q : PagerSeen J) → Type 0
+  RanOf has_noted w lines old new p q =
+      (t : Spread) (before : List Line) → IsShaped t (regions_of (lines_of w)) p → Ran has_noted t (regions_of (lines_of w)) before lines old new p q
+
+  -- one command did
+  abbrev pub RanOne : (has_noted : J → History Entry → Type 0) → Workload → Command → (old new : Replies) → (p q : PagerSeen J) → Type 0
+  RanOne has_noted w command old new p q = RanOf has_noted w (command_line command ∷ []) old new p q
+
+  -- all of them ran
+  abbrev pub RanAll : (has_noted : J → History Entry → Type 0) → Workload → (old new : Replies) → (p q : PagerSeen J) → Type 0
+  RanAll has_noted w old new p q =
+      (t : Spread) → IsShaped t (regions_of (lines_of w)) p → Ran has_noted t (regions_of (lines_of w)) [] (lines_of w) old new p q

@@ -1,5 +1,5 @@
 -- The rules on regions, tested on the `map` lines in order: each region behind those before it.
-use Rattle.std.specs.Prelude.{ℕ, List, [], ◌∷◌, ◌++◌, Option, Some, None}
+use Rattle.std.specs.Prelude.{ℕ, List, [], ◌∷◌, ◌++◌, map, Option, Some, None}
 use Rattle.region_table.specs.Regions.{RegionSeen}
 use Rattle.region_table.specs.Rules.{region_fault}
 use Rattle.region_table.specs.declared.spec.RegionFault.{RegionFault}
@@ -35,6 +35,10 @@ abbrev pub region_refusal : (page_size : ℕ) (before regions : List RegionSeen)
 region_refusal page_size before (r ∷ rs) (n ∷ ns) =
     or_behind n (rule (region_fault (record { page_size = page_size; regions = before }) r)) (region_refusal page_size (before ++ r ∷ []) rs ns)
 region_refusal page_size before rs ns = None
+
+-- the first of the regions of these `map` lines that does
+abbrev pub maps_refusal : (page_size : ℕ) → List MapLine → (numbers : List ℕ) → Option RegionRefusal
+maps_refusal page_size maps numbers = region_refusal page_size [] (map region_seen maps) numbers
 
 -- what holds of a refusal, where the fault is one; want of memory is none
 abbrev pub IfRegionRefused : TableFault → (RegionRefusal → Type 0) → Type 0

@@ -19,11 +19,11 @@ pub data Reply : Type 0 where
 
 -- a fault names its page by the region's name and the page's number
 abbrev pub fault_reply : (name : List ℕ) → (page count : ℕ) → List ℕ
-fault_reply name page count = codes "fault " ++ (name ++ 32 ∷ (decimal page ++ 32 ∷ (decimal count ++ 10 ∷ [])))
+fault_reply name page count = codes "fault " ++ (name ++ (codes " " ++ (decimal page ++ (codes " " ++ (decimal count ++ codes "\n")))))
 
 abbrev pub reply_text : List Region → Reply → List ℕ
 reply_text regions nothing = []
-reply_text regions (begun name) = codes "script " ++ (name ++ 10 ∷ [])
+reply_text regions (begun name) = codes "script " ++ (name ++ codes "\n")
 reply_text regions (loaded bytes) = load_reply bytes
 reply_text regions ok = codes "ok\n"
 reply_text regions unmapped = codes "unmapped\n"

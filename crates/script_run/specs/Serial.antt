@@ -22,12 +22,12 @@ loaded regions l = []
 -- the reply to a load of these bytes
 abbrev pub load_reply : List ℕ → List ℕ
 load_reply [] = codes "load\n"
-load_reply (b ∷ bytes) = codes "load " ++ (encode_lower (b ∷ bytes) ++ 10 ∷ [])
+load_reply (b ∷ bytes) = codes "load " ++ (encode_lower (b ∷ bytes) ++ codes "\n")
 
 -- what a line writes to the text; no accepted text has an `unmap` yet
 abbrev pub reply : List (List ℕ) → Line → List ℕ
 reply regions (map_line name kept size writable) = []
-reply regions (script_line name) = codes "script " ++ (name ++ 10 ∷ [])
+reply regions (script_line name) = codes "script " ++ (name ++ codes "\n")
 reply regions (load_line r off len) = load_reply (loaded regions (load_line r off len))
 reply regions (store_line r off bytes) = codes "ok\n"
 reply regions (prefetch_line r off len) = codes "ok\n"

@@ -19,12 +19,13 @@ mod serial_run;
 mod settings;
 mod sink;
 mod source;
-#[cfg(test)]
-mod tests;
 
 pub use memory::memory_lanes;
 pub use regions::{RegionKind, RegionRefusal, TableFault, table_of_maps};
 pub use serial_run::{RunBack, SerialEnd, serial};
-pub use settings::Settings;
+pub use settings::{
+    DEFAULT_AHEAD, DEFAULT_EVICTORS, DEFAULT_FAULTS, DEFAULT_FILLERS, DEFAULT_FRAMES, DEFAULT_HIGH,
+    DEFAULT_LOW, DEFAULT_PAGE_SIZE, DEFAULT_STRIPES, Settings,
+};
 pub use sink::{FailingWrite, MemSink, Sink, SinkFault, StdSink};
 pub use source::{MemSource, Source, SourceFault, StdSource};

@@ -1,13 +1,15 @@
 //! The lanes of a workload whose regions are kept in memory, all zeros at first.
 ghost use Rattle.std.specs.Prelude.{◌≡◌, ◌<◌, ◌≤◌, ◌*◌, ◌/◌, [], true, map, length, replicate, IfOk, OnOk};
-ghost use Rattle.store_trait.specs.MemLanes.{lane_seen, AreLanesOf};
+ghost use Rattle.page_base.specs.declared.limits.TheConstants.{MOST_REGIONS};
+ghost use Rattle.store_trait.specs.MemLanes.{lane_seen};
+ghost use Rattle.workload_text.specs.declared.limits.TheConstants.{MOST_MEMORY_BYTES};
 ghost use Rattle.workload_text.specs.View.{region, lines_of};
 ghost use Rattle.workload_text.specs.Built.{is_built};
 ghost use Rattle.workload_text.specs.Accepted.{IsRunnable, regions_of};
 ghost use Rattle.script_run.specs.Serial.{zeros_of};
 ghost use Rattle.script_run.specs.Contents.{rows_in, rows_seen, contents_of};
-ghost use Rattle.script_run.specs.Fits.{FitLanes, has_whole_pages};
-ghost use Rattle.script_run.specs.InsideZeros.{AreSmall, PutsLanes, AreZeroRows};
+ghost use Rattle.script_run.specs.Fits.{LanesFit, has_whole_pages};
+ghost use Rattle.script_run.specs.InsideZeros.{AreSmall, PutsLanes, AreZeroLanes, AreZeroRowsOf};
 
 use crate::settings::Settings;
 use page_base::{Bytes, Layout, List, OutOfMemory};
@@ -49,8 +51,8 @@ fn zero_lanes(
 ) -> Result<List<MemLane>, OutOfMemory>
     requires some { 0 < bytes }
     requires whole { bytes ≡ bytes / layout.now.page_size * layout.now.page_size }
-    requires small { bytes ≤ 16777216 }
-    ensures { IfOk result (λ lanes. AreLanesOf region (bytes / layout.now.page_size) layout.now.page_size layout.now.stripes (replicate bytes 0) lanes.items) }
+    requires small { bytes ≤ MOST_MEMORY_BYTES }
+    ensures { IfOk result (λ lanes. AreZeroLanes layout.now region bytes lanes.items) }
 {
     let Ok(zeros) = vec![in alloc; 0u8; bytes] else {
         return Err(OutOfMemory);
@@ -69,10 +71,10 @@ fn put_regions(
     maps: &[MapLine],
     rows: &mut [List<MemLane>],
 ) -> Result<(), OutOfMemory>
-    requires few { length maps.now ≤ 64 }
+    requires few { length maps.now ≤ MOST_REGIONS }
     requires small { AreSmall layout.now.page_size (map region maps.now) }
     requires empty { rows_in rows.old ≡ replicate layout.now.stripes [] }
-    ensures { OnOk result (AreZeroRows layout.now.page_size layout.now.stripes (map region maps.now) (rows_in rows.new)) }
+    ensures { OnOk result (AreZeroRowsOf layout.now maps.now rows.new) }
 {
     for i in 0..maps.len() {
         let lanes = zero_lanes(alloc, layout, i as u16, maps[i].length as usize)?;
@@ -87,9 +89,9 @@ fn zero_rows(
     layout: &Layout,
     maps: &[MapLine],
 ) -> Result<Vec<List<MemLane>>, OutOfMemory>
-    requires few { length maps.now ≤ 64 }
+    requires few { length maps.now ≤ MOST_REGIONS }
     requires small { AreSmall layout.now.page_size (map region maps.now) }
-    ensures { IfOk result (λ rows. AreZeroRows layout.now.page_size layout.now.stripes (map region maps.now) (rows_in rows.items)) }
+    ensures { IfOk result (λ rows. AreZeroRowsOf layout.now maps.now rows.items) }
 {
     let mut rows = empty_rows(alloc, layout.stripes() as usize)?;
     put_regions(alloc, layout, maps, rows.as_mut_slice())?;
@@ -105,7 +107,7 @@ pub fn memory_lanes(
     requires runnable { IsRunnable (lines_of workload.now) }
     requires built { is_built (lines_of workload.now) ≡ true }
     requires whole { has_whole_pages settings.now.layout.page_size (regions_of (lines_of workload.now)) ≡ true }
-    ensures fit { IfOk result (λ lanes. FitLanes settings.now.layout (regions_of (lines_of workload.now)) (rows_seen lanes)) }
+    ensures fit { IfOk result (λ lanes. LanesFit settings.now (lines_of workload.now) (rows_seen lanes)) }
     ensures zeros { IfOk result (λ lanes. contents_of (rows_seen lanes) ≡ zeros_of (lines_of workload.now)) }
 {
     let rows = zero_rows(alloc, &settings.layout, workload.maps.as_slice())?;

@@ -1,9 +1,9 @@
 //! The pager of a run, as it is opened over the lanes of a workload.
 ghost use Rattle.std.specs.Prelude.{◌≡◌, ◌≤◌, [], IfOk, IfErr};
+ghost use Rattle.page_base.specs.declared.limits.TheConstants.{MOST_PAGES};
 ghost use Rattle.region_table.specs.Regions.{shapes_of, page_count};
 ghost use Rattle.serial_pager.specs.Pagers.{rows_of};
-ghost use Rattle.workload_text.specs.Accepted.{regions_of};
-ghost use Rattle.script_run.specs.InsideRunning.{MayOpen, OpensOn};
+ghost use Rattle.script_run.specs.InsideRunning.{MayOpen, OpensFor};
 
 use crate::settings::Settings;
 use page_base::{List, OutOfMemory, RegionShape};
@@ -17,7 +17,7 @@ use store_trait::{LaneSet, Store};
 /// The shape of each region, by its number.
 fn shapes_of(alloc: Global, table: &RegionTable) -> Result<List<RegionShape>, OutOfMemory>
     ensures shapes { IfOk result (λ shapes. shapes.items ≡ shapes_of table.now) }
-    ensures few { IfOk result (λ shapes. page_count table.now ≤ 1048576) }
+    ensures few { IfOk result (λ shapes. page_count table.now ≤ MOST_PAGES) }
 {
     let count = table.count();
     let mut shapes = List::new(alloc);
@@ -46,7 +46,7 @@ pub(crate) fn open_pager<S: Store, J: Journal>(
     journals: &mut List<J>,
 ) -> Result<SerialPager<S, J>, LaneSet<S>>
     requires may { (lines : _) × MayOpen settings.now table.now lines (rows_of S.seen lanes) journals.old.items }
-    ensures opened { IfOk result (λ p. (lines : _) → MayOpen settings.now table.now lines (rows_of S.seen lanes) journals.old.items → OpensOn settings.now (regions_of lines) (rows_of S.seen lanes) journals.old.items p) }
+    ensures opened { IfOk result (λ p. OpensFor settings.now table.now (rows_of S.seen lanes) journals.old.items p) }
     ensures taken { IfOk result (λ p. journals.new.items ≡ []) }
     ensures back { IfErr result (λ back. rows_of S.seen back ≡ rows_of S.seen lanes) }
     ensures journals { IfErr result (λ back. journals.new.items ≡ journals.old.items) }

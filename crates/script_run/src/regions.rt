@@ -2,13 +2,14 @@
 //!
 //! The table of regions knows the rules; here the regions of a workload are put into one, and the first that it refuses is
 //! named by its line.
-ghost use Rattle.std.specs.Prelude.{◌≡◌, ◌≤◌, true, [], map, length, IfOk, OnOk, IfErr, Some, None};
+ghost use Rattle.std.specs.Prelude.{◌≡◌, ◌≤◌, true, map, length, IfOk, OnOk, IfErr, Some, None};
 ghost use Rattle.page_base.specs.Layouts.{is_page_size};
+ghost use Rattle.page_base.specs.declared.limits.TheConstants.{MOST_REGIONS};
 ghost use Rattle.region_table.specs.Regions.{seen_of, backing_of};
 ghost use Rattle.workload_text.specs.View.{backing_of as backing_of_line, region};
 ghost use Rattle.script_run.specs.Fits.{has_whole_pages};
 ghost use Rattle.script_run.specs.declared.regions.TableFault.TheVariants as fault;
-ghost use Rattle.script_run.specs.RegionRules.{region_seen, rule, region_refusal, IfRegionRefused};
+ghost use Rattle.script_run.specs.RegionRules.{region_seen, rule, maps_refusal, IfRegionRefused};
 
 use page_base::{Bytes, OutOfMemory};
 use region_table::{Kind, RegionFault, RegionSpec, RegionTable};
@@ -24,7 +25,7 @@ pub enum RegionKind {
     SameStore,
     /// The length, or that of one file, isn't made of whole pages, or the files don't fit the length.
     BadLength,
-    /// All regions so far have more than 1048576 pages.
+    /// All regions so far have more than `MOST_PAGES` pages.
     TooManyPages,
 }
 
@@ -100,12 +101,12 @@ pub fn table_of_maps(
     lines: &[u32],
 ) -> Result<RegionTable, TableFault>
     requires page_size { is_page_size page_size ≡ true }
-    requires few { length maps.now ≤ 64 }
+    requires few { length maps.now ≤ MOST_REGIONS }
     requires as_many { length lines.now ≡ length maps.now }
     ensures table { IfOk result (λ t. t ≡ record { page_size = page_size; regions = map region_seen maps.now }) }
-    ensures accepted { OnOk result (region_refusal page_size [] (map region_seen maps.now) lines.now ≡ None) }
+    ensures accepted { OnOk result (maps_refusal page_size maps.now lines.now ≡ None) }
     ensures whole { OnOk result (has_whole_pages page_size (map region maps.now) ≡ true) }
-    ensures refused { IfErr result (λ f. IfRegionRefused f (λ r. region_refusal page_size [] (map region_seen maps.now) lines.now ≡ Some r)) }
+    ensures refused { IfErr result (λ f. IfRegionRefused f (λ r. maps_refusal page_size maps.now lines.now ≡ Some r)) }
 {
     let mut table = RegionTable::new(alloc, page_size)?;
     for i in 0..maps.len() {

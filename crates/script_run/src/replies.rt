@@ -1,18 +1,18 @@
 //! The replies of a run.
 //!
 //! All room is taken before the first line runs: nothing here takes memory.
-ghost use Rattle.std.specs.Prelude.{◌≡◌, ◌+◌, ◌*◌, ◌<◌, ◌≤◌, ◌++◌, ◌∷◌, [], length, sum, codes, vec_len, IfOk};
+ghost use Rattle.std.specs.Prelude.{◌≡◌, ◌+◌, ◌*◌, ◌<◌, ◌≤◌, ◌++◌, [], length, sum, codes, vec_len, IfOk};
 ghost use Rattle.hex.specs.Hex.{encode_lower};
 ghost use Rattle.std.specs.Prelude.{true, false};
 ghost use Rattle.std.specs.Fmt.{decimal};
+ghost use Rattle.workload_text.specs.declared.limits.TheConstants.{MOST_ACCESS_BYTES, MOST_LOADED_BYTES};
+ghost use Rattle.script_run.specs.declared.rooms.TheConstants.{FAULT_ROOM, SCRIPT_ROOM, LOAD_ROOM};
 ghost use Rattle.script_run.specs.Serial.{load_reply};
 ghost use Rattle.script_run.specs.Replies.{fault_reply};
 
 use page_base::{Bytes, OutOfMemory};
 use std::alloc::Global;
-
-/// The most bytes that one load or store may reach.
-pub(crate) const MOST_ACCESS: usize = 65_536;
+use workload_text::MOST_ACCESS_BYTES;
 
 /// The text so far, and the number and the sum of the bytes that it shows as loaded.
 #[derive(Drop)]
@@ -22,14 +22,14 @@ pub(crate) struct Replies {
     pub(crate) sum: u64,
     pub(crate) faulted: bool,
     digits: Vec<u8>,
-    ghost few: { loaded ≤ 33554432 },
+    ghost few: { loaded ≤ MOST_LOADED_BYTES },
     ghost bytes: { sum ≤ 255 * loaded },
-    ghost wide: { vec_len digits ≡ 131072 },
+    ghost wide: { vec_len digits ≡ 2 * MOST_ACCESS_BYTES },
 }
 
 /// Adds up the values of some bytes.
 fn sum_of(bytes: &[u8]) -> u64
-    requires { length bytes.now ≤ 65536 }
+    requires { length bytes.now ≤ MOST_ACCESS_BYTES }
     ensures value { result ≡ sum bytes.now }
     ensures small { result ≤ 255 * length bytes.now }
 {
@@ -75,7 +75,7 @@ impl Replies {
     {
         let mut text = Bytes::new(alloc);
         text.reserve(room)?;
-        match vec![in alloc; 0u8; 2 * MOST_ACCESS] {
+        match vec![in alloc; 0u8; 2 * MOST_ACCESS_BYTES] {
             Ok(digits) => Ok(Replies {
                 text,
                 loaded: 0,
@@ -94,9 +94,9 @@ impl Replies {
     }
 
     pub(crate) fn script(&mut self, name: &[u8])
-        requires room { length name.now + 8 ≤ self.old.text.spare }
-        ensures text { self.new.text.items ≡ self.old.text.items ++ (codes "script " ++ (name.now ++ 10 ∷ [])) }
-        ensures spare { self.old.text.spare ≤ self.new.text.spare + (length name.now + 8) }
+        requires room { length name.now + SCRIPT_ROOM ≤ self.old.text.spare }
+        ensures text { self.new.text.items ≡ self.old.text.items ++ (codes "script " ++ (name.now ++ codes "\n")) }
+        ensures spare { self.old.text.spare ≤ self.new.text.spare + (length name.now + SCRIPT_ROOM) }
         ensures loaded { self.new.loaded ≡ self.old.loaded }
         ensures sum { self.new.sum ≡ self.old.sum }
         ensures faulted { self.new.faulted ≡ self.old.faulted }
@@ -119,9 +119,9 @@ impl Replies {
 
     /// A fault of a page of the region of this name, with the count of the page's lane.
     pub(crate) fn fault(&mut self, name: &[u8], page: u32, count: u64)
-        requires room { length name.now + 39 ≤ self.old.text.spare }
+        requires room { length name.now + FAULT_ROOM ≤ self.old.text.spare }
         ensures text { self.new.text.items ≡ self.old.text.items ++ fault_reply name.now page count }
-        ensures spare { self.old.text.spare ≤ self.new.text.spare + (length name.now + 39) }
+        ensures spare { self.old.text.spare ≤ self.new.text.spare + (length name.now + FAULT_ROOM) }
         ensures loaded { self.new.loaded ≡ self.old.loaded }
         ensures sum { self.new.sum ≡ self.old.sum }
         ensures faulted { self.new.faulted ≡ true }
@@ -137,11 +137,11 @@ impl Replies {
     }
 
     pub(crate) fn load(&mut self, bytes: &[u8])
-        requires short { length bytes.now ≤ 65536 }
-        requires few { self.old.loaded + length bytes.now ≤ 33554432 }
-        requires room { 2 * length bytes.now + 6 ≤ self.old.text.spare }
+        requires short { length bytes.now ≤ MOST_ACCESS_BYTES }
+        requires few { self.old.loaded + length bytes.now ≤ MOST_LOADED_BYTES }
+        requires room { 2 * length bytes.now + LOAD_ROOM ≤ self.old.text.spare }
         ensures text { self.new.text.items ≡ self.old.text.items ++ load_reply bytes.now }
-        ensures spare { self.old.text.spare ≤ self.new.text.spare + (2 * length bytes.now + 6) }
+        ensures spare { self.old.text.spare ≤ self.new.text.spare + (2 * length bytes.now + LOAD_ROOM) }
         ensures loaded { self.new.loaded ≡ self.old.loaded + length bytes.now }
         ensures sum { self.new.sum ≡ self.old.sum + sum bytes.now }
         ensures faulted { self.new.faulted ≡ self.old.faulted }

@@ -8,8 +8,15 @@ ghost use Rattle.script_run.specs.InsideRooms.{longest_name, fault_room, room, r
 
 use workload_text::{Command, MapLine, Script, Workload};
 
-/// The bytes of a fault's reply beside the region's name: a page has at most 10 digits, a count at most 20.
-const FAULT_ROOM: usize = 39;
+/// The bytes of a fault's reply beside the region's name: `fault `, two spaces, a line feed, at most 10 digits of a page and
+/// 20 of a count.
+pub(crate) const FAULT_ROOM: usize = 39;
+
+/// The bytes of a script's reply beside its name.
+pub(crate) const SCRIPT_ROOM: usize = 8;
+
+/// The bytes of a load's reply beside the digits.
+pub(crate) const LOAD_ROOM: usize = 6;
 
 fn longest_name_of(maps: &[MapLine]) -> usize
     ensures { result ≡ longest_name (map region maps.now) }
@@ -29,7 +36,7 @@ fn room_of_command(command: &Command, fault: usize) -> usize
             region: _,
             off: _,
             len,
-        } => (2 * *len as usize + 6).max(fault),
+        } => (2 * *len as usize + LOAD_ROOM).max(fault),
         _ => fault,
     }
 }
@@ -38,7 +45,7 @@ fn room_of_command(command: &Command, fault: usize) -> usize
 fn room_of_script(script: &Script, fault: usize) -> Option<usize>
     ensures { IfSome result (λ n. (gs : _) → fault ≡ fault_room gs → n ≡ rooms gs (script_lines script.now)) }
 {
-    let Some(mut room) = script.name.len().checked_add(8) else {
+    let Some(mut room) = script.name.len().checked_add(SCRIPT_ROOM) else {
         return None;
     };
     let commands = script.commands.as_slice();

@@ -5,22 +5,17 @@
 ghost use Rattle.std.specs.Prelude.{◌≡◌, ◌+◌, ◌<◌, ◌≤◌, ◌||◌, ◌∷◌, ◌++◌, [], ℕ, Some, true, length, map, slice_get, IfOk, IfErr};
 ghost use Rattle.serial_pager.specs.Pagers.{rows_of, journals_made};
 ghost use Rattle.workload_text.specs.View.{lines_of, script_lines, command_line};
-ghost use Rattle.workload_text.specs.Grammar.{name_at};
 ghost use Rattle.workload_text.specs.Built.{is_built};
 ghost use Rattle.workload_text.specs.Accepted.{IsRunnable, regions_of};
-ghost use Rattle.script_run.specs.Contents.{origins_of};
-ghost use Rattle.script_run.specs.Fits.{FitLanes, AreInRange};
-ghost use Rattle.script_run.specs.FitsJournals.{FitsJournals};
-ghost use Rattle.script_run.specs.Ends.{end_of, lanes_in};
-ghost use Rattle.script_run.specs.Replies.{fault_reply};
-ghost use Rattle.script_run.specs.InsideRooms.{fault_room};
-ghost use Rattle.script_run.specs.FitsSerial.{Spread, spread_of, FitsSerial};
-ghost use Rattle.script_run.specs.InsideRunning.{IsShaped, MayRun, Ran};
+ghost use Rattle.script_run.specs.Fits.{LanesFit, AreInRange};
+ghost use Rattle.script_run.specs.Ends.{lanes_in, origins_in, FitsRun};
+ghost use Rattle.script_run.specs.InsideRooms.{fault_room, fault_of};
+ghost use Rattle.script_run.specs.InsideRunning.{MayRunOf, RanOf, RanOne, RanAll};
 ghost use Rattle.script_run.specs.Tables.{table_of};
 
 use crate::access::{load, store};
 use crate::opening::{open_pager, put_journals};
-use crate::replies::{MOST_ACCESS, Replies};
+use crate::replies::Replies;
 use crate::rooms::room_of;
 use crate::settings::Settings;
 use page_base::{Bytes, List};
@@ -29,13 +24,13 @@ use region_table::RegionTable;
 use serial_pager::{PageFault, SerialPager};
 use std::alloc::Global;
 use store_trait::{LaneSet, Store};
-use workload_text::{Command, Script, Workload};
+use workload_text::{Command, MOST_ACCESS_BYTES, Script, Workload};
 
 /// Tells a fault by the name of its region.
 fn tell_fault(replies: &mut Replies, workload: &Workload, fault: &PageFault)
     requires region { fault.now.key.region < length (regions_of (lines_of workload.now)) }
     requires room { fault_room (regions_of (lines_of workload.now)) ≤ replies.old.text.spare }
-    ensures text { replies.new.text.items ≡ replies.old.text.items ++ fault_reply (name_at (regions_of (lines_of workload.now)) fault.now.key.region) fault.now.key.page fault.now.faults }
+    ensures text { replies.new.text.items ≡ replies.old.text.items ++ fault_of workload.now fault.now }
     ensures spare { replies.old.text.spare ≤ replies.new.text.spare + fault_room (regions_of (lines_of workload.now)) }
     ensures loaded { replies.new.loaded ≡ replies.old.loaded }
     ensures sum { replies.new.sum ≡ replies.old.sum }
@@ -53,10 +48,10 @@ fn run_command<S: Store, J: Journal>(
     table: &RegionTable,
     command: &Command,
 )
-    requires wide { length buf.old ≡ 65536 }
+    requires wide { length buf.old ≡ MOST_ACCESS_BYTES }
     requires table { table.now ≡ table_of pager.old.page_size (lines_of workload.now) }
-    requires may { (t : Spread) × MayRun t (regions_of (lines_of workload.now)) (command_line command.now ∷ []) replies.old pager.old }
-    ensures ran { (t : Spread) (before : _) → IsShaped t (regions_of (lines_of workload.now)) pager.old → Ran J.has_noted t (regions_of (lines_of workload.now)) before (command_line command.now ∷ []) replies.old replies.new pager.old pager.new }
+    requires may { MayRunOf workload.now (command_line command.now ∷ []) replies.old pager.old }
+    ensures ran { RanOne J.has_noted workload.now command.now replies.old replies.new pager.old pager.new }
     ensures journals { journals_made J.made_with pager.new ≡ journals_made J.made_with pager.old }
 {
     match command {
@@ -92,10 +87,10 @@ fn run_script<S: Store, J: Journal>(
     table: &RegionTable,
     script: &Script,
 )
-    requires wide { length buf.old ≡ 65536 }
+    requires wide { length buf.old ≡ MOST_ACCESS_BYTES }
     requires table { table.now ≡ table_of pager.old.page_size (lines_of workload.now) }
-    requires may { (t : Spread) × MayRun t (regions_of (lines_of workload.now)) (script_lines script.now) replies.old pager.old }
-    ensures ran { (t : Spread) (before : _) → IsShaped t (regions_of (lines_of workload.now)) pager.old → Ran J.has_noted t (regions_of (lines_of workload.now)) before (script_lines script.now) replies.old replies.new pager.old pager.new }
+    requires may { MayRunOf workload.now (script_lines script.now) replies.old pager.old }
+    ensures ran { RanOf J.has_noted workload.now (script_lines script.now) replies.old replies.new pager.old pager.new }
     ensures journals { journals_made J.made_with pager.new ≡ journals_made J.made_with pager.old }
 {
     replies.script(script.name.as_slice());
@@ -112,10 +107,10 @@ fn run_scripts<S: Store, J: Journal>(
     workload: &Workload,
     table: &RegionTable,
 )
-    requires wide { length buf.old ≡ 65536 }
+    requires wide { length buf.old ≡ MOST_ACCESS_BYTES }
     requires table { table.now ≡ table_of pager.old.page_size (lines_of workload.now) }
-    requires may { (t : Spread) × MayRun t (regions_of (lines_of workload.now)) (lines_of workload.now) replies.old pager.old }
-    ensures ran { (t : Spread) → IsShaped t (regions_of (lines_of workload.now)) pager.old → Ran J.has_noted t (regions_of (lines_of workload.now)) [] (lines_of workload.now) replies.old replies.new pager.old pager.new }
+    requires may { MayRunOf workload.now (lines_of workload.now) replies.old pager.old }
+    ensures ran { RanAll J.has_noted workload.now replies.old replies.new pager.old pager.new }
     ensures journals { journals_made J.made_with pager.new ≡ journals_made J.made_with pager.old }
 {
     let scripts = workload.scripts.as_slice();
@@ -168,12 +163,12 @@ pub fn serial<S: Store, J: Journal>(
     requires built { is_built (lines_of workload.now) ≡ true }
     requires settings { AreInRange settings.now }
     requires table { table ≡ table_of settings.now.layout.page_size (lines_of workload.now) }
-    requires lanes { FitLanes settings.now.layout (regions_of (lines_of workload.now)) (rows_of S.seen lanes) }
+    requires lanes { LanesFit settings.now (lines_of workload.now) (rows_of S.seen lanes) }
     requires journals { length journals.old.items ≡ settings.now.layout.stripes }
     requires empty { (s : ℕ) (journal : J) → slice_get journals.old.items s ≡ Some journal → J.has_noted journal [] }
     // what the lines answer and leave, and what the journals have noted of it
-    ensures fits { IfOk result (λ e. (run : FitsSerial (spread_of settings.now.layout) (lines_of workload.now) (rows_of S.seen lanes) (rows_of S.seen e.lanes) (end_of e)) × FitsJournals J.has_noted settings.now table (lines_of workload.now) (rows_of S.seen lanes) (rows_of S.seen e.lanes) run.replies run.failed journals.new.items) }
-    ensures origins { IfOk result (λ e. origins_of (rows_of S.seen e.lanes) ≡ origins_of (rows_of S.seen lanes)) }
+    ensures fits { IfOk result (λ e. FitsRun S.seen J.has_noted settings.now table workload.now lanes e journals.new) }
+    ensures origins { IfOk result (λ e. origins_in S.seen e.lanes ≡ origins_in S.seen lanes) }
     ensures journals { IfOk result (λ e. map J.made_with journals.new.items ≡ map J.made_with journals.old.items) }
     ensures back { IfErr result (λ back. rows_of S.seen (lanes_in back) ≡ rows_of S.seen lanes) }
     ensures unchanged { IfErr result (λ back. journals.new.items ≡ journals.old.items) }
@@ -184,7 +179,7 @@ pub fn serial<S: Store, J: Journal>(
     let Ok(mut replies) = Replies::with_room(alloc, room) else {
         return Err(RunBack::OutOfMemory { lanes });
     };
-    let Ok(mut buf) = vec![in alloc; 0u8; MOST_ACCESS] else {
+    let Ok(mut buf) = vec![in alloc; 0u8; MOST_ACCESS_BYTES] else {
         return Err(RunBack::OutOfMemory { lanes });
     };
     let mut pager = match open_pager(alloc, settings, &table, lanes, journals) {

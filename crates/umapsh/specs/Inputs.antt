@@ -6,6 +6,7 @@ use Rattle.workload_text.specs.Grammar.{lines_in}
 use Rattle.workload_text.specs.Refusals.{RefusedAt, read_text}
 use Rattle.workload_text.specs.Answers.{map_numbers}
 use Rattle.workload_text.specs.Built.{is_built}
+use Rattle.script_run.specs.declared.settings.TheConstants.{DEFAULT_PAGE_SIZE}
 use Rattle.script_run.specs.Tables.{regions_seen}
 use Rattle.script_run.specs.RegionRules.{region_refusal}
 use Rattle.script_run.specs.declared.regions.RegionRefusal.{RegionRefusal}
@@ -24,7 +25,7 @@ refused_behind None false = Some (record { line = 0; kind = why.Unbuilt })
 
 abbrev pub refused_text : Result (List TextLine) RefusedAt → Option RefusedInput
 refused_text (Err r) = Some (record { line = r.line; kind = why.Text r.kind })
-refused_text (Ok ts) = refused_behind (region_refusal 4096 [] (regions_seen (lines_in ts)) (map_numbers 1 ts)) (is_built (lines_in ts))
+refused_text (Ok ts) = refused_behind (region_refusal DEFAULT_PAGE_SIZE [] (regions_seen (lines_in ts)) (map_numbers 1 ts)) (is_built (lines_in ts))
 
 -- why an input is refused, if it is
 unfoldable pub refusal_of : List ℕ → Option RefusedInput

@@ -1,8 +1,9 @@
 -- What the parts of the command answer: how reading stopped, and how running stopped.
-use Rattle.std.specs.Prelude.{◌≡◌, ℕ, ◌≤◌, List, length, Option, Some}
+use Rattle.std.specs.Prelude.{◌≡◌, ℕ, ◌+◌, ◌≤◌, List, length, Option, Some}
 use Rattle.std.specs.Io.KnownBytes.{Consumes, IsAtEnd}
 use Rattle.page_base.specs.Lanes.{Rose}
 use Rattle.umapsh.specs.Inputs.{refusal_of}
+use Rattle.workload_text.specs.declared.limits.TheConstants.{MOST_TEXT_BYTES}
 use Rattle.workload_text.specs.declared.refusal.TextFault.{TextFault}
 use Rattle.workload_text.specs.declared.refusal.TextFault.TheVariants as text
 use Rattle.script_run.specs.declared.regions.TableFault.{TableFault}
@@ -14,8 +15,8 @@ use Rattle.umapsh.specs.declared.status.Status.TheVariants.{Done, Refused, Words
 -- the source gave these bytes: all of the input, or one more than a text may have
 pub record ReadAll (input left : Option (List ℕ)) (bytes : List ℕ) : Type 0 where
   pub taken : Consumes input left bytes
-  pub few : length bytes ≤ 16777217
-  pub whole : length bytes ≤ 16777216 → IsAtEnd left
+  pub few : length bytes ≤ MOST_TEXT_BYTES + 1
+  pub whole : length bytes ≤ MOST_TEXT_BYTES → IsAtEnd left
 
 -- why reading stopped
 abbrev pub ReadStop : Status → (before now : ℕ) → Type 0

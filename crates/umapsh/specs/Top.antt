@@ -2,6 +2,7 @@
 use Rattle.std.specs.Prelude.{◌≡◌, ℕ, ◌+◌, ◌<◌, ◌≤◌, List, length, Option, Some, None, IfSome}
 use Rattle.std.specs.Io.KnownBytes.{Appends, Consumes, IsAtEnd}
 use Rattle.page_base.specs.Lanes.{Rose}
+use Rattle.workload_text.specs.declared.limits.TheConstants.{MOST_TEXT_BYTES}
 use Rattle.workload_text.specs.Line.{Line}
 use Rattle.workload_text.specs.Grammar.{Spells}
 use Rattle.script_run.specs.Serial.{zeros_of, serial_text}
@@ -22,12 +23,12 @@ abbrev pub answer_of : List Line → List ℕ
 answer_of lines = serial_text (zeros_of lines) lines
 
 -- A run over told input: `left` is what the source had left when it ended, and the sink's bytes were `old` and are `new`.
--- An input of more than 16777216 bytes is refused once 16777217 were read
+-- An input of more than `MOST_TEXT_BYTES` is refused once one byte more than these was read
 abbrev pub Says : Status → (input left : Option (List ℕ)) → (old new : Option (List ℕ)) → Type 0
 Says Done input left old new =
     IfSome input (λ b. (lines : List Line) × Accepts b lines × Appends old new (answer_of lines)) × IsAtEnd left
 Says (Refused line k) input left old new =
-    IfSome input (λ b. (refusal_of b ≡ Some (record { line = line; kind = k })) × (16777216 < length b → IfSome left (λ l. length b ≡ 16777217 + length l))) × (new ≡ old)
+    IfSome input (λ b. (refusal_of b ≡ Some (record { line = line; kind = k })) × (MOST_TEXT_BYTES < length b → IfSome left (λ l. length b ≡ MOST_TEXT_BYTES + 1 + length l))) × (new ≡ old)
 Says (Words fault) input left old new = (left ≡ input) × (new ≡ old)
 Says Memory input left old new = new ≡ old
 Says (SinkFault faults) input left old new =
@@ -49,6 +50,11 @@ Causes (Refused line k) source source' sink sink' = Unit {0}
 Causes (Words fault) source source' sink sink' = Unit {0}
 Causes Memory source source' sink sink' = Unit {0}
 
+-- the same, where these functions count the faults of the source and of the sink
+abbrev pub IsCaused : {S K : Type 0} (source_faults : S → ℕ) (sink_faults : K → ℕ) → Status → (source source' : S) (sink sink' : K) → Type 0
+IsCaused source_faults sink_faults status source source' sink sink' =
+    Causes status (source_faults source) (source_faults source') (sink_faults sink) (sink_faults sink')
+
 -- the source gave some bytes, no more than one past what a text may have
 abbrev pub ReadsFew : (input left : Option (List ℕ)) → Type 0
-ReadsFew input left = (bytes : List ℕ) × Consumes input left bytes × (length bytes ≤ 16777217)
+ReadsFew input left = (bytes : List ℕ) × Consumes input left bytes × (length bytes ≤ MOST_TEXT_BYTES + 1)

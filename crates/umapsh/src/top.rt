@@ -5,11 +5,12 @@ ghost use Rattle.std.specs.Prelude.{◌≡◌, ◌<◌, true, length, vec_len, I
 ghost use Rattle.workload_text.specs.View.{lines_of};
 ghost use Rattle.workload_text.specs.Accepted.{IsRunnable, regions_of};
 ghost use Rattle.workload_text.specs.Built.{is_built};
+ghost use Rattle.script_run.specs.declared.settings.TheConstants.{DEFAULT_PAGE_SIZE};
 ghost use Rattle.script_run.specs.Fits.{has_whole_pages};
 ghost use Rattle.script_run.specs.Tables.{table_of};
 ghost use Rattle.umapsh.specs.Status.{refused_words};
 ghost use Rattle.umapsh.specs.Words.{words_fault};
-ghost use Rattle.umapsh.specs.Top.{Accepts, answer_of, Says, RefusesRightly, Causes, ReadsFew};
+ghost use Rattle.umapsh.specs.Top.{Accepts, answer_of, Says, RefusesRightly, IsCaused, ReadsFew};
 ghost use Rattle.umapsh.specs.InsideTop.{text_status, region_status, ReadAll, ReadStop, RunStop};
 
 use crate::refusal::Refusal;
@@ -25,10 +26,10 @@ use workload_text::laws::{
     refusals_are_right, text_is_read_as_spelt, text_is_read_one_way,
     text_is_refused_at_its_first_bad_line,
 };
-use workload_text::{TextFault, Workload, is_built, parse};
+use workload_text::{MOST_TEXT_BYTES, TextFault, Workload, is_built, parse};
 
 /// One byte more than a text may have.
-const MOST_READ: usize = 16_777_217;
+const MOST_READ: usize = MOST_TEXT_BYTES + 1;
 
 /// How many bytes are asked for at once.
 const READ_SIZE: usize = 65_536;
@@ -114,7 +115,7 @@ struct Accepted {
 
 /// The workload of an input, if it isn't refused: by its text, by the rules on regions, or because it isn't built yet.
 fn accept(alloc: Global, layout: Layout, bytes: &[u8]) -> Result<Accepted, Status>
-    requires page_size { layout.page_size ≡ 4096 }
+    requires page_size { layout.page_size ≡ DEFAULT_PAGE_SIZE }
     ensures accepted { IfOk result (λ a. Accepts bytes.now (lines_of a.workload)) }
     ensures runnable { IfOk result (λ a. IsRunnable (lines_of a.workload)) }
     ensures built { IfOk result (λ a. is_built (lines_of a.workload) ≡ true) }
@@ -173,7 +174,7 @@ fn run(alloc: Global, bytes: &[u8]) -> Result<Bytes, Status>
 
 fn answer<S: Source, K: Sink>(alloc: Global, call: &Call, source: &mut S, sink: &mut K) -> Status
     ensures says { Says result (S.left source.old) (S.left source.new) (K.written sink.old) (K.written sink.new) }
-    ensures causes { Causes result (S.fault_count source.old) (S.fault_count source.new) (K.fault_count sink.old) (K.fault_count sink.new) }
+    ensures causes { IsCaused S.fault_count K.fault_count result source.old source.new sink.old sink.new }
     ensures words { refused_words result ≡ words_fault call.now.words.items }
     ensures few { ReadsFew (S.left source.old) (S.left source.new) }
 {
@@ -207,7 +208,7 @@ pub fn top_serial<S: Source, F, K: Sink>(
 ) -> (Status, F)
     ensures says { Says result.0 (S.left source.old) (S.left source.new) (K.written sink.old) (K.written sink.new) }
     ensures right { RefusesRightly result.0 (S.left source.old) }
-    ensures causes { Causes result.0 (S.fault_count source.old) (S.fault_count source.new) (K.fault_count sink.old) (K.fault_count sink.new) }
+    ensures causes { IsCaused S.fault_count K.fault_count result.0 source.old source.new sink.old sink.new }
     ensures words { refused_words result.0 ≡ words_fault call.words.items }
     ensures few { ReadsFew (S.left source.old) (S.left source.new) }
     ensures folder { result.1 ≡ folder }

@@ -4,6 +4,7 @@ use Rattle.std.proofs.lemmas.List.Sums.{sum_by-append, sum_by-cons}
 use Rattle.std.proofs.lemmas.Slice.{take-put_mid}
 use borrow.Rule.Slice.PartMut.{put_mid}
 use Rattle.page_model.specs.declared.entry.Entry.TheVariants.{Load}
+use Rattle.region_table.specs.Covers.{IsNext}
 use Rattle.region_table.specs.Cuts.{rest_of}
 use Rattle.region_table.specs.Pieces.{pieces_of}
 use Rattle.page_base.specs.declared.keys.Piece.{Piece}
@@ -16,8 +17,8 @@ use Rattle.page_model.specs.Pieces.{loads}
 use Rattle.script_run.specs.InsideRanges.{key_of, GoesBy}
 use Rattle.script_run.proofs.Pieces.{length-put_mid}
 use Rattle.script_run.proofs.Accesses.{loaded_more}
-use Rattle.script_run.proofs.Makings.{by_none, by_access, by_failure, FailsBy, loads_more}
-use Rattle.script_run.proofs.Ranged.{IsNext, next_piece, all_done, goes_none, goes_more, goes_within, one_piece, held_more, key_is, page_is, page_below, has_piece, is_piece, faults_at, piece_is}
+use Rattle.script_run.proofs.Makings.{by_none, by_access, by_failure, FailsBy}
+use Rattle.script_run.proofs.Ranged.{all_bytes, goes_none, goes_more, goes_within, one_piece, held_more, key_is, page_is, page_below, has_piece, is_piece, faults_at, piece_is}
 use Rattle.script_run.proofs.access.load.Goals as goal
 
 pub loop-piece-init : goal.loop-piece-init
@@ -45,8 +46,23 @@ slice_bounds-load-end g c =
     let piece : Piece = c.in-Some.piece in
     let rest = rest_of c.next.new.self in
     let whole : pieces_of z c.args.region off len ≡ front ++ piece ∷ rest = i.pieces ∙ ap (λ ps. front ++ ps) c.in-Some.ensures.steps in
-    let next : IsNext z c.args.region off len done piece = next_piece z c.args.region off len done front piece rest (c.pieces_cover.ensures z c.args.region off len c.requires.listed.some) whole i.bytes in
+    let next : IsNext z c.args.region off len done piece = c.pieces_follow.ensures.next z c.args.region off len done front rest piece c.requires.listed.some whole i.bytes in
     omega (arith, next.short, c.loop-piece.auto.buf)
+
+pub load-requires-clause-few : goal.load-requires-clause-few
+load-requires-clause-few g c =
+    let p = c.args.pager.now in
+    let z = p.page_size in
+    let off = c.args.off in
+    let len = length c.args.buf.now in
+    let done = c.loop-piece.done in
+    let i = c.loop-piece.invariant in
+    let front = c.loop-piece.yielded in
+    let piece : Piece = c.in-Some.piece in
+    let rest = rest_of c.next.new.self in
+    let whole : pieces_of z c.args.region off len ≡ front ++ piece ∷ rest = i.pieces ∙ ap (λ ps. front ++ ps) c.in-Some.ensures.steps in
+    let next : IsNext z c.args.region off len done piece = c.pieces_follow.ensures.next z c.args.region off len done front rest piece c.requires.listed.some whole i.bytes in
+    omega (arith, i.goes.spent, c.requires.range.few, next.at.some, next.short, c.loop-piece.auto.buf)
 
 pub load-requires-clause-piece : goal.load-requires-clause-piece
 load-requires-clause-piece g c =
@@ -60,7 +76,7 @@ load-requires-clause-piece g c =
     let piece : Piece = c.in-Some.piece in
     let rest = rest_of c.next.new.self in
     let whole : pieces_of z c.args.region off len ≡ front ++ piece ∷ rest = i.pieces ∙ ap (λ ps. front ++ ps) c.in-Some.ensures.steps in
-    let next : IsNext z c.args.region off len done piece = next_piece z c.args.region off len done front piece rest (c.pieces_cover.ensures z c.args.region off len c.requires.listed.some) whole i.bytes in
+    let next : IsNext z c.args.region off len done piece = c.pieces_follow.ensures.next z c.args.region off len done front rest piece c.requires.listed.some whole i.bytes in
     let buf = c.loop-piece.buf in
     let fits : done + piece.len ≤ length buf = omega (arith, next.short, c.loop-piece.auto.buf) in
     let part : length (take (done + piece.len - done) (drop done buf)) ≡ piece.len = omega (arith, length-take (done + piece.len - done) (drop done buf), length-drop done buf, fits) in
@@ -78,7 +94,7 @@ loop-piece-preserved g c =
     let piece : Piece = c.in-Some.piece in
     let rest = rest_of c.next.new.self in
     let whole : pieces_of z c.args.region off len ≡ front ++ piece ∷ rest = i.pieces ∙ ap (λ ps. front ++ ps) c.in-Some.ensures.steps in
-    let next : IsNext z c.args.region off len done piece = next_piece z c.args.region off len done front piece rest (c.pieces_cover.ensures z c.args.region off len c.requires.listed.some) whole i.bytes in
+    let next : IsNext z c.args.region off len done piece = c.pieces_follow.ensures.next z c.args.region off len done front rest piece c.requires.listed.some whole i.bytes in
     let buf = c.loop-piece.buf in
     let fits : done + piece.len ≤ length buf = omega (arith, next.short, c.loop-piece.auto.buf) in
     let part : length (take (done + piece.len - done) (drop done buf)) ≡ piece.len = omega (arith, length-take (done + piece.len - done) (drop done buf), length-drop done buf, fits) in
@@ -90,7 +106,7 @@ loop-piece-preserved g c =
     let whole_buf : length (put_mid done (done + piece.len - done) buf bytes_read) ≡ length buf = length-put_mid buf bytes_read done (done + piece.len - done) (omega (arith, long)) (omega (arith, fits)) in
     let taken : take (done + piece.len) (put_mid done (done + piece.len - done) buf bytes_read) ≡ take done buf ++ bytes_read = take-put_mid done (done + piece.len - done) buf bytes_read (done + piece.len) (omega (arith, fits)) (omega (arith, long, fits)) in
     record {
-      goes = goes_more done piece.len p now new i.goes (one_piece piece.len now new e.same e.spent e.counts next.some);
+      goes = goes_more done piece.len p now new i.goes (one_piece piece.len now new e.same e.spent e.counts next.at.some);
       within = omega (arith, whole_buf, fits);
       pieces = whole ∙ sym (append_assoc front (piece ∷ []) rest);
       bytes = sum_by-append (λ (q : Piece). q.len) front (piece ∷ []) ∙ omega (arith, i.bytes, sum_by-cons (λ (q : Piece). q.len) piece []);
@@ -99,10 +115,10 @@ loop-piece-preserved g c =
       front = λ bytes h.
           let there : held now piece.key ≡ Some (page_of z bytes piece.key.page) = i.held piece.key (has_piece z c.args.region off len done piece next p now c.requires.range i.goes.same refl) ∙ ap (held p) (key_is z c.args.region off len done piece next) ∙ h.each piece.key.page (page_below z c.args.region off len done piece next p now c.requires.range i.goes.same refl) in
           let inside : off + length buf ≤ length bytes = omega (arith, c.requires.range.inside, h.whole, c.loop-piece.auto.buf) in
-          let same : bytes_read ≡ take piece.len (drop (piece.key.page * z + piece.place) bytes) = piece_is z piece.key.page piece.place piece.len bytes bytes_read (held now piece.key) there e.bytes long next.within (omega (arith, next.begins, fits, inside)) in
-          loaded_more buf bytes_read bytes off done piece.len (piece.key.page * z + piece.place) fits inside long same next.begins (i.front bytes h) (done + piece.len - done) (done + piece.len) (omega arith) refl;
+          let same : bytes_read ≡ take piece.len (drop (piece.key.page * z + piece.place) bytes) = piece_is z piece.key.page piece.place piece.len bytes bytes_read (held now piece.key) there e.bytes long next.at.within (omega (arith, next.at.begins, fits, inside)) in
+          loaded_more buf bytes_read bytes off done piece.len (piece.key.page * z + piece.place) fits inside long same next.at.begins (i.front bytes h) (done + piece.len - done) (done + piece.len) (omega arith) refl;
       made =
-          subst (λ es. GoesBy g.J.Journal.has_noted es [] p new) (sym (ap (loads (front ++ piece ∷ [])) taken ∙ loads_more front piece (take done buf) bytes_read (omega (arith, i.bytes, length-take done buf, fits)) long))
+          subst (λ es. GoesBy g.J.Journal.has_noted es [] p new) (sym (ap (loads (front ++ piece ∷ [])) taken ∙ c.accesses_by_piece.ensures.own (λ k place its. Load k place its) front piece (take done buf) bytes_read (omega (arith, i.bytes, length-take done buf, fits)) long))
           (by_access g.J.Journal.has_noted (loads front (take done buf)) p now new piece.key is_read (Load piece.key piece.place bytes_read) i.goes.same i.made e.ok refl refl refl);
       journals = e.made ∙ i.journals;
     }
@@ -119,9 +135,9 @@ returns-in-Err-clause-goes g c =
     let piece : Piece = c.in-Some.piece in
     let rest = rest_of c.next.new.self in
     let whole : pieces_of z c.args.region off len ≡ front ++ piece ∷ rest = i.pieces ∙ ap (λ ps. front ++ ps) c.in-Some.ensures.steps in
-    let next : IsNext z c.args.region off len done piece = next_piece z c.args.region off len done front piece rest (c.pieces_cover.ensures z c.args.region off len c.requires.listed.some) whole i.bytes in
+    let next : IsNext z c.args.region off len done piece = c.pieces_follow.ensures.next z c.args.region off len done front rest piece c.requires.listed.some whole i.bytes in
     let e = c.in-Err.ensures in
-    goes_within (done + 1) len p c.load.new.self (goes_more done 1 p c.loop-piece.pager c.load.new.self i.goes (one_piece 1 c.loop-piece.pager c.load.new.self e.same e.spent e.counts (omega arith))) (omega (arith, next.some, next.short))
+    goes_within (done + 1) len p c.load.new.self (goes_more done 1 p c.loop-piece.pager c.load.new.self i.goes (one_piece 1 c.loop-piece.pager c.load.new.self e.same e.spent e.counts (omega arith))) (omega (arith, next.at.some, next.short))
 
 pub returns-in-Err-clause-journals : goal.returns-in-Err-clause-journals
 returns-in-Err-clause-journals g c = c.in-Err.ensures.made ∙ c.loop-piece.invariant.journals
@@ -144,7 +160,7 @@ returns-in-Err-clause-fault g c =
     let piece : Piece = c.in-Some.piece in
     let rest = rest_of c.next.new.self in
     let whole : pieces_of z c.args.region off len ≡ front ++ piece ∷ rest = i.pieces ∙ ap (λ ps. front ++ ps) c.in-Some.ensures.steps in
-    let next : IsNext z c.args.region off len done piece = next_piece z c.args.region off len done front piece rest (c.pieces_cover.ensures z c.args.region off len c.requires.listed.some) whole i.bytes in
+    let next : IsNext z c.args.region off len done piece = c.pieces_follow.ensures.next z c.args.region off len done front rest piece c.requires.listed.some whole i.bytes in
     let e = c.in-Err.ensures in
     let f = c.in-Err.fault in
     let now = c.loop-piece.pager in
@@ -171,7 +187,7 @@ pub returns-clause-bytes : goal.returns-clause-bytes
 returns-clause-bytes g c = λ bytes h.
     let i = c.loop-piece.invariant in
     let z = c.args.pager.now.page_size in
-    let all : c.loop-piece.done ≡ length c.args.buf.now = all_done z c.args.region c.args.off (length c.args.buf.now) c.loop-piece.done c.loop-piece.yielded (c.pieces_cover.ensures z c.args.region c.args.off (length c.args.buf.now) c.requires.listed.some) (i.pieces ∙ ap (λ ps. c.loop-piece.yielded ++ ps) c.in-None.ensures.steps.0) i.bytes in
+    let all : c.loop-piece.done ≡ length c.args.buf.now = c.pieces_follow.ensures.all z c.args.region c.args.off (length c.args.buf.now) c.loop-piece.done c.requires.listed.some (all_bytes z c.args.region c.args.off (length c.args.buf.now) c.loop-piece.done c.loop-piece.yielded (i.pieces ∙ ap (λ ps. c.loop-piece.yielded ++ ps) c.in-None.ensures.steps.0) i.bytes) in
     sym (take_all c.loop-piece.done c.loop-piece.buf (omega (arith, all, c.loop-piece.auto.buf))) ∙ i.front bytes h ∙ ap (λ m. take m (drop c.args.off bytes)) all
 
 pub returns-clause-made : goal.returns-clause-made
@@ -181,6 +197,6 @@ returns-clause-made g c =
     let len = length c.args.buf.now in
     let front = c.loop-piece.yielded in
     let pieces : pieces_of z c.args.region c.args.off len ≡ front ++ [] = i.pieces ∙ ap (λ ps. front ++ ps) c.in-None.ensures.steps.0 in
-    let all : c.loop-piece.done ≡ len = all_done z c.args.region c.args.off len c.loop-piece.done front (c.pieces_cover.ensures z c.args.region c.args.off len c.requires.listed.some) pieces i.bytes in
+    let all : c.loop-piece.done ≡ len = c.pieces_follow.ensures.all z c.args.region c.args.off len c.loop-piece.done c.requires.listed.some (all_bytes z c.args.region c.args.off len c.loop-piece.done front pieces i.bytes) in
     subst (λ ps. GoesBy g.J.Journal.has_noted (loads ps c.loop-piece.buf) [] c.args.pager.now c.loop-piece.pager) (sym (pieces ∙ append-nil front))
     (subst (λ xs. GoesBy g.J.Journal.has_noted (loads front xs) [] c.args.pager.now c.loop-piece.pager) (take_all c.loop-piece.done c.loop-piece.buf (omega (arith, all, c.loop-piece.auto.buf))) i.made)

@@ -3,9 +3,8 @@ use Rattle.page_base.specs.declared.keys.Key.{Key}
 use Rattle.region_table.specs.Cuts.{rest_of}
 use Rattle.region_table.specs.Pieces.{pieces_of}
 use Rattle.serial_pager.specs.Pagers.{owes, HoldsSame, journals_made}
-use Rattle.page_model.specs.Pieces.{loads}
+use Rattle.page_model.specs.Pieces.{loads, bytes_in}
 use Rattle.script_run.specs.InsideRanges.{HoldsRegion, GoesOn, GoesBy}
-use Rattle.script_run.proofs.Ranged.{lengths}
 use Rattle.script_run.proofs.access.load.Given as goal
 
 abbrev pub invariant-loop-piece : goal.invariant-loop-piece
@@ -13,7 +12,7 @@ invariant-loop-piece g l = record {
   goes : GoesOn l.done l.initial.pager l.pager;
   within : l.done ≤ length l.buf;
   pieces : pieces_of l.initial.pager.page_size l.region l.off (length l.initial.buf) ≡ l.yielded ++ rest_of l.piece-iterator;
-  bytes : lengths l.yielded ≡ l.done;
+  bytes : bytes_in l.yielded ≡ l.done;
   held : HoldsSame l.initial.pager l.pager;
   owes : (k : Key) → owes l.pager k ≡ true → owes l.initial.pager k ≡ true;
   front : (bytes : List ℕ) → HoldsRegion l.initial.pager l.region bytes → take l.done l.buf ≡ take l.done (drop l.off bytes);

@@ -5,6 +5,7 @@ use Rattle.std.proofs.lemmas.List.Sums.{sum_by-append, sum_by-cons}
 use Rattle.page_base.specs.ListSeen.{spliced}
 use Rattle.page_base.specs.declared.keys.Key.{Key}
 use Rattle.page_model.specs.declared.entry.Entry.TheVariants.{Save}
+use Rattle.region_table.specs.Covers.{IsNext}
 use Rattle.region_table.specs.Cuts.{rest_of}
 use Rattle.region_table.specs.Pieces.{pieces_of}
 use Rattle.page_base.specs.declared.keys.Piece.{Piece}
@@ -16,8 +17,8 @@ use Rattle.script_run.specs.FitsSerial.{StoresTo, piece_key}
 use Rattle.page_model.specs.Pieces.{saves}
 use Rattle.script_run.specs.InsideRanges.{key_of, HoldsRegion, GoesBy}
 use Rattle.script_run.proofs.Accesses.{spliced-spliced}
-use Rattle.script_run.proofs.Makings.{by_none, by_access, by_failure, FailsBy, accesses_snoc}
-use Rattle.script_run.proofs.Ranged.{IsNext, next_piece, all_done, goes_none, goes_more, goes_within, one_piece, same_page, key_is, page_is, page_below, is_piece, faults_at, region_stored, region_kept, spliced_none, stores_to, same_pages}
+use Rattle.script_run.proofs.Makings.{by_none, by_access, by_failure, FailsBy}
+use Rattle.script_run.proofs.Ranged.{all_bytes, goes_none, goes_more, goes_within, one_piece, same_page, key_is, page_is, page_below, is_piece, faults_at, region_stored, region_kept, spliced_none, stores_to, same_pages}
 use Rattle.script_run.proofs.access.store.Goals as goal
 
 pub loop-piece-init : goal.loop-piece-init
@@ -46,8 +47,24 @@ slice_bounds-store-end g c =
     let piece : Piece = c.in-Some.piece in
     let rest = rest_of c.next.new.self in
     let whole : pieces_of z c.args.region off len ≡ front ++ piece ∷ rest = i.pieces ∙ ap (λ ps. front ++ ps) c.in-Some.ensures.steps in
-    let next : IsNext z c.args.region off len done piece = next_piece z c.args.region off len done front piece rest (c.pieces_cover.ensures z c.args.region off len c.requires.listed.some) whole i.bytes in
+    let next : IsNext z c.args.region off len done piece = c.pieces_follow.ensures.next z c.args.region off len done front rest piece c.requires.listed.some whole i.bytes in
     omega (arith, next.short)
+
+pub store-requires-clause-few : goal.store-requires-clause-few
+store-requires-clause-few g c =
+    let p = c.args.pager.now in
+    let z = p.page_size in
+    let off = c.args.off in
+    let bytes = c.args.bytes.now in
+    let len = length bytes in
+    let done = c.loop-piece.done in
+    let i = c.loop-piece.invariant in
+    let front = c.loop-piece.yielded in
+    let piece : Piece = c.in-Some.piece in
+    let rest = rest_of c.next.new.self in
+    let whole : pieces_of z c.args.region off len ≡ front ++ piece ∷ rest = i.pieces ∙ ap (λ ps. front ++ ps) c.in-Some.ensures.steps in
+    let next : IsNext z c.args.region off len done piece = c.pieces_follow.ensures.next z c.args.region off len done front rest piece c.requires.listed.some whole i.bytes in
+    omega (arith, i.goes.spent, c.requires.range.few, next.at.some, next.short)
 
 pub store-requires-clause-piece : goal.store-requires-clause-piece
 store-requires-clause-piece g c =
@@ -62,7 +79,7 @@ store-requires-clause-piece g c =
     let piece : Piece = c.in-Some.piece in
     let rest = rest_of c.next.new.self in
     let whole : pieces_of z c.args.region off len ≡ front ++ piece ∷ rest = i.pieces ∙ ap (λ ps. front ++ ps) c.in-Some.ensures.steps in
-    let next : IsNext z c.args.region off len done piece = next_piece z c.args.region off len done front piece rest (c.pieces_cover.ensures z c.args.region off len c.requires.listed.some) whole i.bytes in
+    let next : IsNext z c.args.region off len done piece = c.pieces_follow.ensures.next z c.args.region off len done front rest piece c.requires.listed.some whole i.bytes in
     let part : length (take (done + piece.len - done) (drop done bytes)) ≡ piece.len = omega (arith, length-take (done + piece.len - done) (drop done bytes), length-drop done bytes, next.short) in
     subst (λ n. IsPiece c.loop-piece.pager piece.key piece.place n) (sym part) (is_piece z c.args.region off len done piece next p c.loop-piece.pager c.requires.range i.goes.same refl)
 
@@ -79,8 +96,8 @@ store-requires-clause-writable g c =
     let piece : Piece = c.in-Some.piece in
     let rest = rest_of c.next.new.self in
     let whole : pieces_of z c.args.region off len ≡ front ++ piece ∷ rest = i.pieces ∙ ap (λ ps. front ++ ps) c.in-Some.ensures.steps in
-    let next : IsNext z c.args.region off len done piece = next_piece z c.args.region off len done front piece rest (c.pieces_cover.ensures z c.args.region off len c.requires.listed.some) whole i.bytes in
-    ap (λ r. may_store (slice_get c.loop-piece.pager.shapes r)) next.of_region ∙ ap (λ ss. may_store (slice_get ss c.args.region)) i.goes.same.shapes ∙ c.requires.writable
+    let next : IsNext z c.args.region off len done piece = c.pieces_follow.ensures.next z c.args.region off len done front rest piece c.requires.listed.some whole i.bytes in
+    ap (λ r. may_store (slice_get c.loop-piece.pager.shapes r)) next.at.of_region ∙ ap (λ ss. may_store (slice_get ss c.args.region)) i.goes.same.shapes ∙ c.requires.writable
 
 pub loop-piece-preserved : goal.loop-piece-preserved
 loop-piece-preserved g c =
@@ -95,36 +112,36 @@ loop-piece-preserved g c =
     let piece : Piece = c.in-Some.piece in
     let rest = rest_of c.next.new.self in
     let whole : pieces_of z c.args.region off len ≡ front ++ piece ∷ rest = i.pieces ∙ ap (λ ps. front ++ ps) c.in-Some.ensures.steps in
-    let next : IsNext z c.args.region off len done piece = next_piece z c.args.region off len done front piece rest (c.pieces_cover.ensures z c.args.region off len c.requires.listed.some) whole i.bytes in
+    let next : IsNext z c.args.region off len done piece = c.pieces_follow.ensures.next z c.args.region off len done front rest piece c.requires.listed.some whole i.bytes in
     let part : length (take (done + piece.len - done) (drop done bytes)) ≡ piece.len = omega (arith, length-take (done + piece.len - done) (drop done bytes), length-drop done bytes, next.short) in
     let key = key_is z c.args.region off len done piece next in
-    let place : piece.place < z = omega (arith, next.some, next.within) in
+    let place : piece.place < z = omega (arith, next.at.some, next.at.within) in
     let now = c.loop-piece.pager in
     let new = c.store.new.self in
     let e = c.in-Ok.ensures in
     let stored = take (done + piece.len - done) (drop done bytes) in
-    let short : done < len = omega (arith, next.some, next.short) in
+    let short : done < len = omega (arith, next.at.some, next.short) in
     let count : done + piece.len - done ≡ piece.len = omega arith in
     record {
-      goes = goes_more done piece.len p now new i.goes (one_piece piece.len now new e.same e.spent e.counts next.some);
+      goes = goes_more done piece.len p now new i.goes (one_piece piece.len now new e.same e.spent e.counts next.at.some);
       within = next.short;
       pieces = whole ∙ sym (append_assoc front (piece ∷ []) rest);
       bytes = sum_by-append (λ (q : Piece). q.len) front (piece ∷ []) ∙ omega (arith, i.bytes, sum_by-cons (λ (q : Piece). q.len) piece []);
-      others = λ k has other. e.others k (same_page p now i.goes.same k ∙ has) (λ h. other (ap (λ (j : Key). j.region) h ∙ next.of_region)) ∙ i.others k has other;
+      others = λ k has other. e.others k (same_page p now i.goes.same k ∙ has) (λ h. other (ap (λ (j : Key). j.region) h ∙ next.at.of_region)) ∙ i.others k has other;
       owes = λ k owed. elim (e.owes k owed) [
         | inl h ↦ i.owes k h
-        | inr h ↦ inr (stores_to z z off done piece.key.page piece.place c.args.region bytes k refl (h ∙ key) next.begins place short)
+        | inr h ↦ inr (stores_to z z off done piece.key.page piece.place c.args.region bytes k refl (h ∙ key) next.at.begins place short)
       ];
       front = λ b h.
           let inside : off + length bytes ≤ length b = omega (arith, c.requires.range.inside, h.whole) in
           let b' = spliced b off (take done bytes) in
           let here : held new (key_of c.args.region piece.key.page) ≡ option_map (λ xs. spliced xs piece.place stored) (held now (key_of c.args.region piece.key.page)) = subst (λ k. held new k ≡ option_map (λ xs. spliced xs piece.place stored) (held now k)) key e.bytes in
-          let step = region_stored now new c.args.region piece.key.page piece.place z b' stored e.same i.goes.same.page_size (subst (λ m. piece.key.page < m) (sym (same_pages p now i.goes.same c.args.region)) (page_below z c.args.region off len done piece next p now c.requires.range i.goes.same refl)) (omega (arith, part, next.within)) here (λ k has ne. e.others k has (λ h. ne (h ∙ key))) (i.front b h) in
+          let step = region_stored now new c.args.region piece.key.page piece.place z b' stored e.same i.goes.same.page_size (subst (λ m. piece.key.page < m) (sym (same_pages p now i.goes.same c.args.region)) (page_below z c.args.region off len done piece next p now c.requires.range i.goes.same refl)) (omega (arith, part, next.at.within)) here (λ k has ne. e.others k has (λ h. ne (h ∙ key))) (i.front b h) in
           let exact : spliced b' (piece.key.page * z + piece.place) stored ≡ spliced b off (take (done + piece.len) bytes) =
-          ap (λ j. spliced b' j stored) next.begins ∙ ap (λ m. spliced b' (off + done) (take m (drop done bytes))) count ∙ spliced-spliced b bytes off done piece.len inside next.short in
+          ap (λ j. spliced b' j stored) next.at.begins ∙ ap (λ m. spliced b' (off + done) (take m (drop done bytes))) count ∙ spliced-spliced b bytes off done piece.len inside next.short in
           subst (λ xs. HoldsRegion new c.args.region xs) exact step;
       made =
-          subst (λ es. GoesBy g.J.Journal.has_noted es [] p new) (ap (λ m. saves front bytes ++ Save piece.key piece.place (take m (drop done bytes)) ∷ []) count ∙ sym (accesses_snoc (λ k at its. Save k at its) front piece bytes done i.bytes))
+          subst (λ es. GoesBy g.J.Journal.has_noted es [] p new) (ap (λ m. saves front bytes ++ Save piece.key piece.place (take m (drop done bytes)) ∷ []) count ∙ sym (c.accesses_by_piece.ensures.more (λ k place its. Save k place its) front piece bytes ∙ ap (λ m. saves front bytes ++ Save piece.key piece.place (take piece.len (drop m bytes)) ∷ []) i.bytes))
           (by_access g.J.Journal.has_noted (saves front bytes) p now new piece.key is_for_store (Save piece.key piece.place stored) i.goes.same i.made e.ok refl refl refl);
       journals = e.made ∙ i.journals;
     }
@@ -142,9 +159,9 @@ returns-in-Err-clause-goes g c =
     let piece : Piece = c.in-Some.piece in
     let rest = rest_of c.next.new.self in
     let whole : pieces_of z c.args.region off len ≡ front ++ piece ∷ rest = i.pieces ∙ ap (λ ps. front ++ ps) c.in-Some.ensures.steps in
-    let next : IsNext z c.args.region off len done piece = next_piece z c.args.region off len done front piece rest (c.pieces_cover.ensures z c.args.region off len c.requires.listed.some) whole i.bytes in
+    let next : IsNext z c.args.region off len done piece = c.pieces_follow.ensures.next z c.args.region off len done front rest piece c.requires.listed.some whole i.bytes in
     let e = c.in-Err.ensures in
-    goes_within (done + 1) len p c.store.new.self (goes_more done 1 p c.loop-piece.pager c.store.new.self i.goes (one_piece 1 c.loop-piece.pager c.store.new.self e.same e.spent e.counts (omega arith))) (omega (arith, next.some, next.short))
+    goes_within (done + 1) len p c.store.new.self (goes_more done 1 p c.loop-piece.pager c.store.new.self i.goes (one_piece 1 c.loop-piece.pager c.store.new.self e.same e.spent e.counts (omega arith))) (omega (arith, next.at.some, next.short))
 
 pub returns-in-Err-clause-journals : goal.returns-in-Err-clause-journals
 returns-in-Err-clause-journals g c = c.in-Err.ensures.made ∙ c.loop-piece.invariant.journals
@@ -167,13 +184,13 @@ returns-in-Err-clause-owes g c = λ k owed.
     let piece : Piece = c.in-Some.piece in
     let rest = rest_of c.next.new.self in
     let whole : pieces_of z c.args.region off len ≡ front ++ piece ∷ rest = i.pieces ∙ ap (λ ps. front ++ ps) c.in-Some.ensures.steps in
-    let next : IsNext z c.args.region off len done piece = next_piece z c.args.region off len done front piece rest (c.pieces_cover.ensures z c.args.region off len c.requires.listed.some) whole i.bytes in
+    let next : IsNext z c.args.region off len done piece = c.pieces_follow.ensures.next z c.args.region off len done front rest piece c.requires.listed.some whole i.bytes in
     let key = key_is z c.args.region off len done piece next in
-    let place : piece.place < z = omega (arith, next.some, next.within) in
-    let short : done < len = omega (arith, next.some, next.short) in
+    let place : piece.place < z = omega (arith, next.at.some, next.at.within) in
+    let short : done < len = omega (arith, next.at.some, next.short) in
     elim (c.in-Err.ensures.owes k owed) [
       | inl h ↦ i.owes k h
-      | inr h ↦ inr (stores_to z z off done piece.key.page piece.place c.args.region bytes k refl (h ∙ key) next.begins place short)
+      | inr h ↦ inr (stores_to z z off done piece.key.page piece.place c.args.region bytes k refl (h ∙ key) next.at.begins place short)
     ]
 
 pub returns-in-Err-clause-fault : goal.returns-in-Err-clause-fault
@@ -189,7 +206,7 @@ returns-in-Err-clause-fault g c =
     let piece : Piece = c.in-Some.piece in
     let rest = rest_of c.next.new.self in
     let whole : pieces_of z c.args.region off len ≡ front ++ piece ∷ rest = i.pieces ∙ ap (λ ps. front ++ ps) c.in-Some.ensures.steps in
-    let next : IsNext z c.args.region off len done piece = next_piece z c.args.region off len done front piece rest (c.pieces_cover.ensures z c.args.region off len c.requires.listed.some) whole i.bytes in
+    let next : IsNext z c.args.region off len done piece = c.pieces_follow.ensures.next z c.args.region off len done front rest piece c.requires.listed.some whole i.bytes in
     let e = c.in-Err.ensures in
     let f = c.in-Err.fault in
     let now = c.loop-piece.pager in
@@ -216,7 +233,7 @@ returns-clause-done g c = λ b h.
     let i = c.loop-piece.invariant in
     let z = c.args.pager.now.page_size in
     let len = length c.args.bytes.now in
-    let all : c.loop-piece.done ≡ len = all_done z c.args.region c.args.off len c.loop-piece.done c.loop-piece.yielded (c.pieces_cover.ensures z c.args.region c.args.off len c.requires.listed.some) (i.pieces ∙ ap (λ ps. c.loop-piece.yielded ++ ps) c.in-None.ensures.steps.0) i.bytes in
+    let all : c.loop-piece.done ≡ len = c.pieces_follow.ensures.all z c.args.region c.args.off len c.loop-piece.done c.requires.listed.some (all_bytes z c.args.region c.args.off len c.loop-piece.done c.loop-piece.yielded (i.pieces ∙ ap (λ ps. c.loop-piece.yielded ++ ps) c.in-None.ensures.steps.0) i.bytes) in
     subst (λ xs. HoldsRegion c.loop-piece.pager c.args.region (spliced b c.args.off xs)) (take_all c.loop-piece.done c.args.bytes.now (omega (arith, all))) (i.front b h)
 
 pub returns-clause-made : goal.returns-clause-made

@@ -6,9 +6,8 @@ use Rattle.region_table.specs.Pieces.{pieces_of}
 use Rattle.workload_text.specs.Line.{store_line}
 use Rattle.serial_pager.specs.Pagers.{has_page, held, owes, journals_made}
 use Rattle.script_run.specs.FitsSerial.{StoresTo}
-use Rattle.page_model.specs.Pieces.{saves}
+use Rattle.page_model.specs.Pieces.{saves, bytes_in}
 use Rattle.script_run.specs.InsideRanges.{HoldsRegion, GoesOn, GoesBy}
-use Rattle.script_run.proofs.Ranged.{lengths}
 use Rattle.script_run.proofs.access.store.Given as goal
 
 abbrev pub invariant-loop-piece : goal.invariant-loop-piece
@@ -16,7 +15,7 @@ invariant-loop-piece g l = record {
   goes : GoesOn l.done l.initial.pager l.pager;
   within : l.done ≤ length l.bytes;
   pieces : pieces_of l.initial.pager.page_size l.region l.off (length l.bytes) ≡ l.yielded ++ rest_of l.piece-iterator;
-  bytes : lengths l.yielded ≡ l.done;
+  bytes : bytes_in l.yielded ≡ l.done;
   others : (k : Key) → has_page l.initial.pager k ≡ true → (k.region ≡ l.region → ⊥) → held l.pager k ≡ held l.initial.pager k;
   owes : (k : Key) → owes l.pager k ≡ true → (owes l.initial.pager k ≡ true) ⊎ StoresTo l.initial.pager.page_size k (store_line l.region l.off l.bytes);
   front : (b : List ℕ) → HoldsRegion l.initial.pager l.region b → HoldsRegion l.pager l.region (spliced b l.off (take l.done l.bytes));
