@@ -1,6 +1,7 @@
 //! A hold of one of many locks, kept together with its owner's passes of all of them.
-ghost use Rattle.std.specs.Prelude.{◌≡◌, ◌∷◌, ◌<◌, true, false, length, slice_get, slice_set, Some, IfOk, OnErr};
+ghost use Rattle.std.specs.Prelude.{◌≡◌, ◌∷◌, ◌<◌, ◌↔◌, length, slice_get, Some, IfOk, IsErr, OnErr};
 ghost use Rattle.std.specs.Option.{IfSome};
+ghost use Rattle.locked_list.specs.Passes.{IsSetAt, HoldsAt};
 ghost use Rattle.turn_lock.specs.Seen.{IsPassOf, IsInHold, holding, given, left_off};
 
 use std::sync::Wait;
@@ -29,6 +30,7 @@ fn lend<T: Stands, R: Wait>(
     pass: &mut Pass<T>,
 ) -> Result<(T, Lent<T, T::Entry>), PassSpent>
     requires own { IsPassOf lock.now pass.old }
+    ensures spent { IsErr result ↔ (pass.old.holds ≡ lock.now.holds) }
     ensures err { OnErr result (pass.new ≡ pass.old) }
     ensures stands { IfOk result (λ r. T.stands r.1.seen r.0) }
     ensures fixed { IfOk result (λ r. T.fixed r.0 ≡ T.fixed lock.now.origin) }
@@ -73,7 +75,8 @@ fn put_back<T: Stands, N: NoteFor<T>>(
     lock.resume(pass, lent).give(value, note);
 }
 
-/// Holds a lock by the owner's pass at `at`, hands its value out, and keeps all passes.
+/// Holds a lock by the owner's pass at `at`, hands its value out, and keeps all passes. It answers PassSpent where that pass
+/// has no hold left.
 pub fn hold_one<'a, T: Stands, R: Wait>(
     rt: &R,
     lock: &'a TurnLock<T>,
@@ -82,12 +85,13 @@ pub fn hold_one<'a, T: Stands, R: Wait>(
 ) -> Result<(T, OneOf<'a, T, T::Entry>), PassSpent>
     requires at { at < length passes.old.passes.items }
     requires own { IfSome (slice_get passes.old.passes.items at) (λ p. IsPassOf lock.now p) }
+    ensures spent { IsErr result ↔ IfSome (slice_get passes.old.passes.items at) (λ p. p.holds ≡ lock.now.holds) }
     ensures stands { IfOk result (λ r. T.stands r.1.lent.seen r.0) }
     ensures fixed { IfOk result (λ r. T.fixed r.0 ≡ T.fixed lock.now.origin) }
     ensures lock { IfOk result (λ r. r.1.lock.now ≡ lock.now) }
     ensures reference { IfOk result (λ r. r.1.passes.ghost_name ≡ passes.entry.ghost_name) }
-    ensures pass { IfOk result (λ r. IfSome (slice_get passes.old.passes.items at) (λ p. r.1.lent ≡ holding p r.1.lent.seen)) }
-    ensures others { IfOk result (λ r. r.1.passes.now.passes.items ≡ slice_set passes.old.passes.items at r.1.lent) }
+    ensures pass { IfOk result (λ r. HoldsAt passes.old.passes.items at r.1.lent) }
+    ensures others { IfOk result (λ r. IsSetAt passes.old.passes.items at r.1.lent r.1.passes.now.passes.items) }
 {
     let (value, lent) = lend(rt, lock, &mut passes.passes[at])?;
     let one = OneOf {
@@ -105,7 +109,8 @@ impl<'a, T: Stands> OneOf<'a, T, T::Entry> {
         requires stands { T.stands ((self.lent.number, N.entry note.now) ∷ self.lent.seen) value }
         requires fixed { T.fixed value ≡ T.fixed self.lock.now.origin }
         ensures reference { result.ghost_name ≡ self.entry.passes.ghost_name }
-        ensures passes { result.now.passes.items ≡ slice_set self.entry.passes.now.passes.items self.entry.at (given self.entry.lent (N.entry note.now)) }
+        ensures passes { IsSetAt self.entry.passes.now.passes.items self.entry.at
+            (given self.entry.lent (N.entry note.now)) result.now.passes.items }
     {
         let OneOf {
             lock,
@@ -121,7 +126,8 @@ impl<'a, T: Stands> OneOf<'a, T, T::Entry> {
         requires stands { T.stands self.lent.seen value }
         requires fixed { T.fixed value ≡ T.fixed self.lock.now.origin }
         ensures reference { result.ghost_name ≡ self.entry.passes.ghost_name }
-        ensures passes { result.now.passes.items ≡ slice_set self.entry.passes.now.passes.items self.entry.at (left_off self.entry.lent) }
+        ensures passes { IsSetAt self.entry.passes.now.passes.items self.entry.at
+            (left_off self.entry.lent) result.now.passes.items }
     {
         let OneOf {
             lock,

@@ -3,7 +3,7 @@ ghost use Rattle.std.specs.Prelude.{◌≡◌, ℕ, ◌^◌, ◌≤◌, true, []
 ghost use Rattle.histories.specs.Histories.{calls_of};
 ghost use Rattle.turn_lock.specs.Jobs.{EachReady, EachDone};
 ghost use Rattle.turn_lock.specs.Seen.{IsPassOf};
-ghost use Rattle.locked_list.specs.Adders.{IsSameBut, HasAdded};
+ghost use Rattle.locked_list.specs.Adders.{IsSameBut, HasAdded, Leaves};
 ghost use Rattle.locked_list.specs.Numbers.{down_from};
 
 use crate::adder::{Adder, Flag};
@@ -55,8 +55,8 @@ pub fn add_all<'a, S: Shelf + Send, R: Threads + Wait + Sync>(
 )
     requires followers { EachReady (λ j. IsPassOf j.lock.now j.pass × (j.pass.mine ≡ [])) followers.old }
     requires leaders { EachReady (λ j. IsPassOf j.lock.now j.pass × (j.pass.mine ≡ [])) leaders.old }
-    ensures followers { EachDone (λ j k. IsPassOf j.lock.now k.pass × IsSameBut j.pass k.pass × HasAdded j.count k.pass k.done) followers.old followers.new }
-    ensures leaders { EachDone (λ j k. IsPassOf j.lock.now k.pass × IsSameBut j.pass k.pass × HasAdded j.count k.pass k.done) leaders.old leaders.new }
+    ensures followers { EachDone (λ j k. Leaves j.lock.now j.count j.pass k.pass k.done) followers.old followers.new }
+    ensures leaders { EachDone (λ j k. Leaves j.lock.now j.count j.pass k.pass k.done) leaders.old leaders.new }
 {
     work_beside(rt, done, followers, leaders);
 }

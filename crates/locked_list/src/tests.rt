@@ -1,5 +1,5 @@
 //! Two threads, each with a thousand numbers.
-ghost use Rattle.std.specs.Prelude.{◌≡◌, [], true, length, slice_get, Some};
+ghost use Rattle.std.specs.Prelude.{◌≡◌, []};
 ghost use Rattle.turn_lock.specs.Seen.{IsPassOf};
 
 use super::*;

@@ -1,11 +1,16 @@
 -- What each kind of step tells the pass that makes it: of the step, the seat before, the number found and the seat after.
 use Rattle.std.specs.Prelude.{◌≡◌, ◌≢◌, ℕ, ◌+◌, ◌*◌, ◌^◌, ◌<◌, ◌≤◌, List, [], ◌∷◌, length, Option, Some, None}
+use Rattle.atomic_table.specs.Seated.{TableId}
 use Rattle.atomic_table.specs.Table.{Me, Step, rest}
 use Rattle.histories.specs.Histories.{History, calls_of, GoesOn}
 use Rattle.turn_lock.specs.declared.view.Terms.{Terms}
 use Rattle.turn_lock.specs.declared.view.View.{View}
 use Rattle.turn_lock.specs.Seen.{HaveTheirCalls, HaveTheirParts, MadeAtMost, AreNumbered, OwnersAreKnown}
 use Rattle.turn_lock.specs.InsideViews.{ticket_of, seats_of, waiting, entered, given_view}
+
+-- the seat is at this table, which has two words and one slot
+abbrev pub SitsAt : (seat table : TableId) → Type 0
+SitsAt seat table = (seat ≡ table) × (table.words ≡ 2) × (table.slots ≡ 1)
 
 module _ {T E : Type 0} where
   -- the number found is its ticket

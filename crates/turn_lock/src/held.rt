@@ -1,5 +1,5 @@
 //! A hold of the lock: from the turn of its ticket to the step that serves the next.
-ghost use Rattle.std.specs.Prelude.{◌≡◌, ℕ, ◌+◌, ◌*◌, ◌^◌, ◌<◌, ◌∷◌, length, IfOk, IfErr, IsErr, ◌↔◌};
+ghost use Rattle.std.specs.Prelude.{◌≡◌, ◌*◌, ◌^◌, ◌<◌, ◌∷◌, length, IfOk, IfErr, IsErr, ◌↔◌};
 ghost use Rattle.histories.specs.Histories.{calls_of, GoesOn, Others};
 ghost use Rattle.turn_lock.specs.Seen.{IsPassOf, IsInHold, holding, given, left_off};
 

@@ -1,5 +1,5 @@
 //! The lock, and how it is made.
-ghost use Rattle.std.specs.Prelude.{◌≡◌, ℕ, ◌^◌, ◌<◌, ◌≤◌, [], IfOk, IfErr, OnOk};
+ghost use Rattle.std.specs.Prelude.{◌≡◌, ◌^◌, ◌<◌, ◌≤◌, [], IfOk, IfErr, OnOk};
 ghost use Rattle.turn_lock.specs.Seen.{first_pass};
 ghost use Rattle.turn_lock.specs.Faults.{IsRefusedFor};
 

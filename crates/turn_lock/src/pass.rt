@@ -1,5 +1,5 @@
 //! A pass: the right to hold a lock so many times, and what its owner knows of the lock's history.
-ghost use Rattle.std.specs.Prelude.{◌≡◌, ℕ, ◌+◌, ◌<◌, IfOk, IsErr, OnErr, OnOk, IsTrue, ◌↔◌};
+ghost use Rattle.std.specs.Prelude.{◌≡◌, ◌+◌, ◌<◌, IfOk, IsErr, OnErr, OnOk, IsTrue, ◌↔◌};
 ghost use Rattle.histories.specs.Histories.{calls_of, GoesOn};
 ghost use Rattle.turn_lock.specs.Seen.{IsPassOf, HaveTheirParts, newcomer, split_once, folded};
 

@@ -2,7 +2,7 @@
 //! end of the table, where the value comes out for good.
 ghost use Rattle.std.specs.Prelude.{◌≡◌, ℕ, ◌+◌, ◌<◌, ◌≤◌, true, length, [], ◌∷◌, None};
 ghost use Rattle.turn_lock.specs.InsideViews.{waiting, given_view};
-ghost use Rattle.turn_lock.specs.InsidePlays.{Enters, Closes};
+ghost use Rattle.turn_lock.specs.InsidePlays.{SitsAt, Enters, Closes};
 ghost use Rattle.turn_lock.specs.declared.view.Turn.TheVariants.{Out, Waits, Inside};
 
 use crate::laws::history_laws;
@@ -57,7 +57,7 @@ pub(crate) fn enter<T: Stands, R: Wait>(
     seat: &mut TurnSeat<T>,
     ticket: u64,
 ) -> T
-    requires table { (seat.old.table_id ≡ table.now.table_id) × (table.now.table_id.words ≡ 2) × (table.now.table_id.slots ≡ 1) }
+    requires table { SitsAt seat.old.table_id table.now.table_id }
     requires live { seat.old.me.0.live ≡ true }
     requires waits { (seat.old.me.0.turn ≡ Waits ticket) × (seat.old.me.1 ≡ []) }
     ensures table { seat.new.table_id ≡ seat.old.table_id }
@@ -83,7 +83,7 @@ pub(crate) fn finish<T: Stands, N, G: Choice<T::Entry>>(
     value: T,
     note: &N,
 )
-    requires table { (seat.old.table_id ≡ table.now.table_id) × (table.now.table_id.words ≡ 2) × (table.now.table_id.slots ≡ 1) }
+    requires table { SitsAt seat.old.table_id table.now.table_id }
     requires live { seat.old.me.0.live ≡ true }
     requires inside { (t : ℕ) × (seat.old.me.0.turn ≡ Inside t) × (seat.old.me.1 ≡ (0, None) ∷ []) }
     requires few { length G.entries ≤ 1 }

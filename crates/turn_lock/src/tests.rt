@@ -1,5 +1,5 @@
 //! Rows worked by hand: what the clauses say, at one concrete value.
-ghost use Rattle.std.specs.Prelude.{◌≡◌, [], IfOk, OnErr, OnOk};
+ghost use Rattle.std.specs.Prelude.{◌≡◌, [], OnErr, OnOk};
 ghost use Rattle.turn_lock.specs.Seen.{IsPassOf};
 
 use super::*;
