@@ -1,5 +1,6 @@
 -- A stripe that is driven by hand.
 use Rattle.std.specs.Prelude.{ℕ, true, ◌≤◌, [], ◌∷◌, None, ◌≡◌}
+use Rattle.page_base.specs.declared.limits.TheConstants.{LEAST_PAGE_SIZE, MOST_PAGE_SIZE}
 use Rattle.histories.specs.Histories.{History}
 use Rattle.page_model.specs.declared.entry.Entry.{Entry}
 use Rattle.page_model.specs.InFlight.{in_flight}
@@ -12,8 +13,8 @@ pub record IsOneRegion (s : Setup) (pages : ℕ) : Type 0 where
   pub stripes : s.stripes ≡ 1
   pub number : s.number ≡ 0
   pub shapes : s.shapes ≡ record { pages = pages; group = 1; writable = true } ∷ []
-  pub large_pages : 64 ≤ s.page_size
-  pub small_pages : s.page_size ≤ 1048576
+  pub large_pages : LEAST_PAGE_SIZE ≤ s.page_size
+  pub small_pages : s.page_size ≤ MOST_PAGE_SIZE
 
 -- the stripe stands for a history
 pub record Stands (c : Core) : Type 0 where

@@ -2,7 +2,7 @@
 ghost use Rattle.std.specs.Prelude.{◌≡◌, true, false};
 ghost use Rattle.page_model.specs.Core as core;
 ghost use Rattle.page_model.specs.Events.{CanRaiseFor, CanStartWrite, CanEvict, IsPicked};
-ghost use Rattle.page_model.specs.Setups.{has_page, is_writable, regions};
+ghost use Rattle.page_model.specs.Setups.{has_page, is_writable};
 
 use page_base::{Key, Why};
 use page_model::Cause;

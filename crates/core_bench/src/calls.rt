@@ -1,5 +1,6 @@
 //! Calls of a stripe, each of which leaves it standing for a history.
-ghost use Rattle.std.specs.Prelude.{◌≡◌, ◌≤◌, ◌+◌, ◌^◌, ℕ, true, length};
+ghost use Rattle.std.specs.Prelude.{◌≡◌, ◌≤◌, ◌+◌, ◌^◌, true, length};
+ghost use Rattle.page_base.specs.declared.limits.TheConstants.{LEAST_PAGE_SIZE, MOST_PAGE_SIZE};
 ghost use Rattle.page_base.specs.declared.keys.Key.{Key};
 ghost use Rattle.page_model.specs.Core.{next};
 ghost use Rattle.page_model.specs.Events.{CanStartWrite};
@@ -8,7 +9,7 @@ ghost use Rattle.page_model.specs.declared.seen.Next.TheVariants as serve;
 ghost use Rattle.core_bench.specs.Hands.{GoesOn, IsAtRest, Stands};
 
 use crate::asked::may_raise;
-use page_base::{Key, Why};
+use page_base::{Key, LEAST_PAGE_SIZE, Why};
 use page_model::events::service_knows;
 use page_model::{Cause, Next};
 use store_trait::Store;
@@ -31,14 +32,14 @@ pub fn raise_at<S: Store>(stripe: &mut Stripe<S>, key: Key, why: Why) -> Option<
     Some(stripe.raise(key, why))
 }
 
-/// Reads one of the first 64 bytes of a page.
+/// Reads one of the first bytes of a page, which every page has.
 pub fn load_at<S: Store>(stripe: &mut Stripe<S>, key: Key, place: u32) -> Option<(Look, u8)>
     requires few { stripe.old.events + 1 ≤ 2 ^ 62 }
     requires page { has_page stripe.old.setup key ≡ true }
-    requires large { 64 ≤ stripe.old.setup.page_size }
+    requires large { LEAST_PAGE_SIZE ≤ stripe.old.setup.page_size }
     ensures on { GoesOn stripe.old stripe.new }
 {
-    if place >= 64 {
+    if place >= LEAST_PAGE_SIZE {
         return None;
     }
     let mut bytes = [0u8];
@@ -46,16 +47,16 @@ pub fn load_at<S: Store>(stripe: &mut Stripe<S>, key: Key, place: u32) -> Option
     Some((look, bytes[0]))
 }
 
-/// Writes one of the first 64 bytes of a page.
+/// Writes one of the first bytes of a page, which every page has.
 pub fn save_at<S: Store>(stripe: &mut Stripe<S>, key: Key, place: u32, byte: u8) -> Option<Look>
     requires few { stripe.old.events + 1 ≤ 2 ^ 62 }
     requires page { has_page stripe.old.setup key ≡ true }
     requires writable { is_writable stripe.old.setup key.region ≡ true }
-    requires large { 64 ≤ stripe.old.setup.page_size }
+    requires large { LEAST_PAGE_SIZE ≤ stripe.old.setup.page_size }
     ensures on { GoesOn stripe.old stripe.new }
     ensures events { stripe.new.events ≤ stripe.old.events + 1 }
 {
-    if place >= 64 {
+    if place >= LEAST_PAGE_SIZE {
         return None;
     }
     Some(stripe.save(key, place, &[byte]))
@@ -78,7 +79,7 @@ pub fn read_in<S: Store>(stripe: &mut Stripe<S>, scratch: &mut [u8])
     requires few { stripe.old.events + 2 ≤ 2 ^ 62 }
     requires rest { IsAtRest stripe.old }
     requires size { length scratch.old ≡ stripe.old.setup.page_size }
-    requires small { stripe.old.setup.page_size ≤ 1048576 }
+    requires small { stripe.old.setup.page_size ≤ MOST_PAGE_SIZE }
     requires next { (k : Key) × (next stripe.old ≡ serve.Read k) }
     ensures rest { IsAtRest stripe.new }
     ensures setup { stripe.new.setup ≡ stripe.old.setup }
@@ -99,7 +100,7 @@ fn reopen<S: Store>(stripe: &mut Stripe<S>, key: Key, byte: Option<u8>)
     requires stands { Stands stripe.old }
     requires page { has_page stripe.old.setup key ≡ true }
     requires writable { is_writable stripe.old.setup key.region ≡ true }
-    requires large { 64 ≤ stripe.old.setup.page_size }
+    requires large { LEAST_PAGE_SIZE ≤ stripe.old.setup.page_size }
     ensures on { GoesOn stripe.old stripe.new }
     ensures events { stripe.new.events ≤ stripe.old.events + 3 }
 {
@@ -123,9 +124,9 @@ pub fn write_out<S: Store>(
     requires rest { IsAtRest stripe.old }
     requires page { has_page stripe.old.setup key ≡ true }
     requires writable { is_writable stripe.old.setup key.region ≡ true }
-    requires large { 64 ≤ stripe.old.setup.page_size }
+    requires large { LEAST_PAGE_SIZE ≤ stripe.old.setup.page_size }
     requires size { length scratch.old ≡ stripe.old.setup.page_size }
-    requires small { stripe.old.setup.page_size ≤ 1048576 }
+    requires small { stripe.old.setup.page_size ≤ MOST_PAGE_SIZE }
     requires can { CanStartWrite stripe.old key why }
     ensures rest { IsAtRest stripe.new }
     ensures setup { stripe.new.setup ≡ stripe.old.setup }

@@ -3,6 +3,7 @@
 //! Between two calls the stripe stands for the history of what was done, in which nothing is in flight: its lane is home. What an event asks is looked at before it: where it
 //! isn't so, nothing is done, and the answer is `None` or false. So a caller owes nothing.
 ghost use Rattle.std.specs.Prelude.{◌≡◌, ◌≤◌, ◌<◌, ◌+◌, ◌^◌, true, length, IfSome};
+ghost use Rattle.page_base.specs.declared.limits.TheConstants.{MOST_PAGES, MOST_FAULTS};
 ghost use Rattle.page_model.specs.Core.{is_home};
 ghost use Rattle.page_model.specs.Setups.{has_page, is_writable};
 ghost use Rattle.store_trait.specs.Memory.{memory_origin};
@@ -61,9 +62,9 @@ impl<S: Store + Drop> Hand<S> {
         lane: S,
     ) -> Result<Hand<S>, OutOfMemory>
         requires one_stripe { layout.stripes ≡ 1 }
-        requires few_pages { pages ≤ 1048576 }
+        requires few_pages { pages ≤ MOST_PAGES }
         requires some_fault { 1 ≤ faults }
-        requires few_faults { faults ≤ 4096 }
+        requires few_faults { faults ≤ MOST_FAULTS }
         requires lane { (S.seen lane).origin ≡ memory_origin 0 pages layout.page_size 1 0 }
     {
         let mut shapes = List::new(alloc);
@@ -132,13 +133,13 @@ impl<S: Store> Hand<S> {
         Some(self.stripe.hint(key))
     }
 
-    /// Reads one of the first 64 bytes of a page.
+    /// Reads one of the first bytes of a page, which every page has.
     pub fn load(&mut self, page: u32, place: u32) -> Option<(Look, u8)> {
         let key = self.key(page)?;
         load_at(&mut self.stripe, key, place)
     }
 
-    /// Writes one of the first 64 bytes of a page.
+    /// Writes one of the first bytes of a page, which every page has.
     pub fn save(&mut self, page: u32, place: u32, byte: u8) -> Option<Look> {
         let key = self.key(page)?;
         save_at(&mut self.stripe, key, place, byte)

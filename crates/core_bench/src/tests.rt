@@ -1,6 +1,6 @@
 //! Worked histories of one stripe of three pages of 64 bytes, as tables: each call, and what it answers.
-ghost use Rattle.std.specs.Prelude.{◌≡◌, ◌≤◌, IfOk};
-ghost use Rattle.store_trait.specs.Memory.{memory_origin};
+ghost use Rattle.page_base.specs.declared.limits.TheConstants.{MOST_FAULTS};
+ghost use Rattle.std.specs.Prelude.{◌≤◌};
 ghost use Rattle.store_trait.specs.declared.mem_lane.MemLane.{MemLane};
 
 use crate::calls::PLACE;
@@ -159,7 +159,7 @@ fn play<S: Store>(rt: &impl Abort, hand: &mut Hand<S>, rows: &[(Do, Said)]) {
 fn in_memory(rt: &HostRuntime, frames: u32, faults: u32) -> Result<Hand<MemLane>, Fail>
     requires some_frame { 1 ≤ frames }
     requires some_fault { 1 ≤ faults }
-    requires few_faults { faults ≤ 4096 }
+    requires few_faults { faults ≤ MOST_FAULTS }
 {
     let layout = Layout::new(64, 1, frames)?;
     let lane = zeros(rt.alloc(), &layout, 3)?;
