@@ -1,6 +1,7 @@
 -- What the applied laws come to, as statements.
-use Rattle.std.specs.Prelude.{◌≡◌, ℕ, ◌+◌, ◌*◌, ◌≤◌, ◌∷◌, ◌++◌, [], true, List, length, slice_get, slice_set, Some}
+use Rattle.std.specs.Prelude.{◌≡◌, ℕ, ◌+◌, ◌*◌, ◌≤◌, ◌∷◌, ◌++◌, [], true, false, List, length, slice_get, slice_set, Some}
 use Rattle.histories.specs.Histories.{History}
+use Rattle.page_base.specs.KeyOrder.{is_below}
 use Rattle.page_base.specs.Pages.{same}
 use Rattle.page_base.specs.declared.keys.Key.{Key}
 use Rattle.page_base.specs.declared.keys.Piece.{Piece}
@@ -21,6 +22,10 @@ use Rattle.workload_text.specs.declared.refusal.TextKind.{TextKind}
 -- a test of two keys that answers true answers true the other way round
 abbrev pub TestsBothWays : Type 0
 TestsBothWays = (j k : Key) → same j k ≡ true → same k j ≡ true
+
+-- keys in rising order don't begin again
+abbrev pub RisesOnce : Type 0
+RisesOnce = (i j k : Key) → is_below i j ≡ true → is_below j k ≡ true → is_below k i ≡ false
 
 -- of two items written over one another the second is read, and a list stays as long
 pub record WritesOver : Type 0 where
