@@ -165,6 +165,7 @@ pub fresh_sized : {S : Type 0} (seen : S → LaneSeen) (c : StripeConfig) (lanes
     → IsSized c (map seen lanes) (no_pages c.shapes.items) (record { page_size = c.layout.page_size; frames = replicate (quota (setup_of c (map seen lanes))) Free; residents = [] }) q (regions_made lanes faults) marks
 fresh_sized seen c lanes faults q marks can e none capacity on off = record {
   table = λ k h. fresh_has (setup_of c (map seen lanes)) k h;
+  rows = length-map c.shapes.items (λ (s : RegionShape). replicate s.pages Absent);
   page_size = refl;
   frames = length-replicate (quota (setup_of c (map seen lanes))) Free;
   capacity = capacity;

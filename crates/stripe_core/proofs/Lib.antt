@@ -14,6 +14,7 @@ pub mod Rebits
 pub mod Writing
 pub mod Making
 pub mod NextDirty
+pub mod PresentIn
 pub mod Firsts
 pub mod Releases
 pub mod Finds

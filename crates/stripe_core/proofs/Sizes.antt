@@ -8,7 +8,7 @@ use Rattle.page_base.specs.declared.keys.Raise.{Raise}
 use Rattle.std.specs.List.{Contains, list_all, filter}
 use Rattle.page_base.specs.Lanes.{LaneSeen}
 use Rattle.soft_mmu.specs.declared.entry.PageEntry.{PageEntry}
-use Rattle.soft_mmu.specs.Entries.{with_entry, HasPage}
+use Rattle.soft_mmu.specs.Entries.{pages_of, with_entry, HasPage}
 use Rattle.page_buffer.specs.Frames.{FrameSeen}
 use Rattle.page_buffer.specs.Buffers.{BufferSeen, with_frame}
 use Rattle.fault_queue.specs.Queues.{QueueSeen}
@@ -23,17 +23,17 @@ use Rattle.stripe_core.proofs.Keys.{page_kept}
 -- after a change of frames
 pub resized : {S : Type 0} {c : StripeConfig} {lanes : List LaneSeen} {t : Table} {b : BufferSeen} {q : QueueSeen} {gs : List (Region S)} {marks : Marks} (after : BufferSeen)
     → after.page_size ≡ b.page_size → length after.frames ≡ length b.frames → IsSized c lanes t b q gs marks → IsSized c lanes t after q gs marks
-resized after size frames z = record { table = z.table; page_size = size ∙ z.page_size; frames = frames ∙ z.frames; capacity = z.capacity; regions = z.regions; faults = z.faults; on = z.on; off = z.off; queued = z.queued }
+resized after size frames z = record { table = z.table; rows = z.rows; page_size = size ∙ z.page_size; frames = frames ∙ z.frames; capacity = z.capacity; regions = z.regions; faults = z.faults; on = z.on; off = z.off; queued = z.queued }
 
 -- after a change of one entry
 pub retabled : {S : Type 0} {c : StripeConfig} {lanes : List LaneSeen} {t : Table} {b : BufferSeen} {q : QueueSeen} {gs : List (Region S)} {marks : Marks} (j : Key) (e : PageEntry)
     → HasPage t j → IsSized c lanes t b q gs marks → IsSized c lanes (with_entry t j e) b q gs marks
-retabled {t = t} j e has z = record { table = λ k h. page_kept t j k e has (z.table k h); page_size = z.page_size; frames = z.frames; capacity = z.capacity; regions = z.regions; faults = z.faults; on = z.on; off = z.off; queued = z.queued }
+retabled {t = t} j e has z = record { table = λ k h. page_kept t j k e has (z.table k h); rows = length-set t j.region (slice_set (pages_of t j.region) j.page e) ∙ z.rows; page_size = z.page_size; frames = z.frames; capacity = z.capacity; regions = z.regions; faults = z.faults; on = z.on; off = z.off; queued = z.queued }
 
 -- after a change of the queue
 pub requeued : {S : Type 0} {c : StripeConfig} {lanes : List LaneSeen} {t : Table} {b : BufferSeen} {q : QueueSeen} {gs : List (Region S)} {marks : Marks} (new : QueueSeen)
     → new.capacity ≡ q.capacity → list_all (λ (p : Raise). has_page (setup_of c lanes) p.key) new.raises ≡ true → IsSized c lanes t b q gs marks → IsSized c lanes t b new gs marks
-requeued new same_capacity all z = record { table = z.table; page_size = z.page_size; frames = z.frames; capacity = same_capacity ∙ z.capacity; regions = z.regions; faults = z.faults; on = z.on; off = z.off; queued = all }
+requeued new same_capacity all z = record { table = z.table; rows = z.rows; page_size = z.page_size; frames = z.frames; capacity = same_capacity ∙ z.capacity; regions = z.regions; faults = z.faults; on = z.on; off = z.off; queued = all }
 
 pub framed : (b : BufferSeen) (f : ℕ) (x : FrameSeen) → length (with_frame b f x).frames ≡ length b.frames
 framed b f x = length-set b.frames f x
@@ -50,6 +50,7 @@ pub rezoned : {S : Type 0} {c : StripeConfig} {lanes : List LaneSeen} {t : Table
     → slice_get gs r ≡ Some g → length new.read_faults.items ≡ length g.read_faults.items → IsSized c lanes t b q gs marks → IsSized c lanes t b q (slice_set gs r new) marks
 rezoned {gs = gs} r g new e size z = record {
   table = z.table;
+  rows = z.rows;
   page_size = z.page_size;
   frames = z.frames;
   capacity = z.capacity;

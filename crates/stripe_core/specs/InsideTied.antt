@@ -52,6 +52,7 @@ CountsWithin n events = n.fills + n.writes + n.evictions + n.faults ≤ events
 
 pub record IsSized {S : Type 0} (c : StripeConfig) (lanes : List LaneSeen) (t : Table) (b : BufferSeen) (q : QueueSeen) (gs : List (Region S)) (marks : Marks) : Type 0 where
   pub table : (k : Key) → has_page (setup_of c lanes) k ≡ true → HasPage t k
+  pub rows : length t ≡ length c.shapes.items
   pub page_size : b.page_size ≡ c.layout.page_size
   pub frames : length b.frames ≡ quota (setup_of c lanes)
   pub capacity : q.capacity ≡ c.faults

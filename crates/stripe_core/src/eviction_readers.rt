@@ -1,6 +1,7 @@
 //! Readers that serve eviction, flushing and unmapping. Each walks the resident pages once at the most, in order of filling,
 //! and stops at the first that passes; `quiet` walks the faults that wait as well.
 ghost use Rattle.std.specs.Prelude.{◌≡◌, ◌<◌, ◌==◌, ◌&&◌, ◌||◌, not, true, find, option_map, slice_get, IfSome};
+ghost use Rattle.std.specs.List.{list_any};
 ghost use Rattle.page_model.specs.Core as core;
 ghost use Rattle.page_model.specs.Setups.{quota, regions};
 ghost use Rattle.fault_queue.specs.Queues.{raise_of};
@@ -56,7 +57,7 @@ impl<S: Store> Stripe<S> {
         requires region { region < regions self.now.setup }
         ensures exact { result ≡ core.is_quiet self.now region }
     {
-        let resident = self.first_of(region).is_some();
+        let resident = self.has_resident(region);
         let waits = self.first_fault_of(region).is_some();
         nothing_left(resident, waits, self.is_home(region))
     }
@@ -114,6 +115,14 @@ impl<S: Store> Stripe<S> {
     {
         let pick = self.pick_of(key);
         is_free_to_go(self.is_writing(key), pick.dirty, self.has_lane(key.region))
+    }
+
+    /// Whether a page of the region is resident.
+    fn has_resident(&self, region: u16) -> bool
+        requires region { region < regions self.now.setup }
+        ensures exact { result ≡ list_any (λ k. k.region == region) (keys_of self.now) }
+    {
+        self.table.present_in(region) > 0
     }
 
     /// The key of the pick.
