@@ -94,32 +94,34 @@ pub fn read_in<S: Store>(stripe: &mut Stripe<S>, scratch: &mut [u8])
     }
 }
 
-/// Stores to `PLACE` of a page that is protected, where a byte is given: it waits to be opened, is opened, and is stored to.
-fn reopen<S: Store>(stripe: &mut Stripe<S>, key: Key, byte: Option<u8>)
-    requires few { stripe.old.events + 3 ≤ 2 ^ 62 }
+/// Stores to `PLACE` of a page that is being written, where a byte is given, and tells what the store finds: the page is
+/// protected, waits to be opened, is opened, and is stored to.
+fn reopen<S: Store>(stripe: &mut Stripe<S>, key: Key, byte: Option<u8>) -> Option<Look>
+    requires few { stripe.old.events + 4 ≤ 2 ^ 62 }
     requires stands { Stands stripe.old }
     requires page { has_page stripe.old.setup key ≡ true }
     requires writable { is_writable stripe.old.setup key.region ≡ true }
     requires large { LEAST_PAGE_SIZE ≤ stripe.old.setup.page_size }
     ensures on { GoesOn stripe.old stripe.new }
-    ensures events { stripe.new.events ≤ stripe.old.events + 3 }
+    ensures events { stripe.new.events ≤ stripe.old.events + 4 }
 {
-    let Some(byte) = byte else {
-        return;
-    };
+    let byte = byte?;
+    let found = save_at(stripe, key, PLACE, byte);
     let _ = raise_at(stripe, key, Why::Protected);
     open_next(stripe);
     let _ = save_at(stripe, key, PLACE, byte);
+    found
 }
 
-/// Writes a page back. Where `between` is a byte, a store of it to `PLACE` comes while the write is out.
+/// Writes a page back. Where `between` is a byte, a store of it to `PLACE` comes while the write is out, and what it finds is
+/// answered.
 pub fn write_out<S: Store>(
     stripe: &mut Stripe<S>,
     key: Key,
     why: Cause,
     scratch: &mut [u8],
     between: Option<u8>,
-)
+) -> Option<Look>
     requires few { stripe.old.events + 8 ≤ 2 ^ 62 }
     requires rest { IsAtRest stripe.old }
     requires page { has_page stripe.old.setup key ≡ true }
@@ -133,10 +135,11 @@ pub fn write_out<S: Store>(
 {
     service_knows();
     let mut trip = stripe.start_write(key, why, scratch);
-    reopen(stripe, key, between);
+    let found = reopen(stripe, key, between);
     let place = u64::from(key.page) * scratch.len() as u64;
     match trip.lane().write_to_store(scratch, place) {
         Ok(()) => stripe.written(trip, scratch),
         Err(_) => stripe.write_failed(trip),
     }
+    found
 }

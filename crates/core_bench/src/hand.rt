@@ -180,16 +180,14 @@ impl<S: Store> Hand<S> {
         save_rounds(&mut self.stripe, self.pages, room, rounds, bytes)
     }
 
-    /// Writes a page back. Where `between` is a byte, a store of it to `PLACE` comes while the write is out.
-    pub fn write(&mut self, page: u32, why: Cause, between: Option<u8>) -> bool {
-        let Some(key) = self.key(page) else {
-            return false;
-        };
+    /// Writes a page back, where it may be written now. Where `between` is a byte, a store of it to `PLACE` comes while the write
+    /// is out, and what it finds is answered inside.
+    pub fn write(&mut self, page: u32, why: Cause, between: Option<u8>) -> Option<Option<Look>> {
+        let key = self.key(page)?;
         if !may_write(&self.stripe, key, why) {
-            return false;
+            return None;
         }
-        write_out(&mut self.stripe, key, why, &mut self.scratch, between);
-        true
+        Some(write_out(&mut self.stripe, key, why, &mut self.scratch, between))
     }
 
     /// Lets a page leave.
