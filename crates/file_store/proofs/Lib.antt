@@ -1,4 +1,5 @@
 mod Rows
+pub mod CountedLists
 pub mod PartRanges
 pub mod PutPages
 pub mod FileLemmas

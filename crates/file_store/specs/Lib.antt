@@ -1,3 +1,5 @@
+pub mod FailingCalls
+pub mod FailingLists
 pub mod FileLanes
 pub mod Folders
 pub mod InsideDirParts

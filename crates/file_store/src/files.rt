@@ -1,4 +1,6 @@
 //! What a folder in memory is made of: its files, and the calls that are to fail.
+ghost use Rattle.std.specs.Prelude.{◌≡◌};
+ghost use Rattle.file_store.specs.FailingLists.{is_next, counted};
 
 use crate::mem_part::Shape;
 use page_base::Bytes;
@@ -49,4 +51,22 @@ pub struct FailingFolder {
     pub path: Bytes,
     pub call: FolderCall,
     pub number: u64,
+}
+
+impl FailingFolder {
+    // Whether the next call of this kind for this path fails.
+    pub(crate) fn is_next(&self, call: FolderCall, path: &[u8]) -> bool
+        ensures { result ≡ is_next call path.now self.now }
+    {
+        self.call == call && self.path.as_slice() == path && self.number == 1
+    }
+
+    // Counts a call of this kind for this path.
+    pub(crate) fn count(&mut self, call: FolderCall, path: &[u8])
+        ensures { self.new ≡ counted call path.now self.old }
+    {
+        if self.call == call && self.path.as_slice() == path {
+            self.number = self.number.saturating_sub(1);
+        }
+    }
 }

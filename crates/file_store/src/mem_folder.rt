@@ -2,9 +2,11 @@
 //!
 //! Two invariants spare the closing of a part all memory and all refusals: each striped part that is out still finds its file
 //! long enough (`fit`), and there is room for a new file for each part that is out (`room`).
-ghost use Rattle.std.specs.Prelude.{◌≡◌, ◌≤◌, ◌+◌, length, Some, vec_capacity};
+ghost use Rattle.std.specs.Prelude.{◌≡◌, ◌<◌, ◌≤◌, ◌+◌, false, [], ◌∷◌, length, map, None, Some, vec_capacity, OnOk, OnErr, IfOk, IfErr, IfSome};
+ghost use Rattle.std.specs.List.{list_any, Contains};
 ghost use Rattle.file_store.specs.MemFiles.{files_in, made_of, told_files};
 ghost use Rattle.file_store.specs.InsideMemFolders.{out_in, AllFit};
+ghost use Rattle.file_store.specs.FailingLists.{is_next, counted};
 
 use crate::files::{FailingFolder, FailingPart, FolderCall, MemFile, OutPart};
 use crate::folder::{Cut, Folder, FolderFault};
@@ -28,15 +30,13 @@ pub struct MemFolder {
 }
 
 /// Counts a call of this kind for this path, and says whether it fails.
-fn strikes(failing: &mut [FailingFolder], call: FolderCall, path: &[u8]) -> bool {
-    let mut struck = false;
+fn strikes(failing: &mut [FailingFolder], call: FolderCall, path: &[u8]) -> bool
+    ensures struck { result ≡ list_any (is_next call path.now) failing.old }
+    ensures counted { failing.new ≡ map (counted call path.now) failing.old }
+{
+    let struck = failing.iter().any(|x| x.is_next(call, path));
     for each in failing.iter_mut() {
-        if each.call == call && each.number > 0 && each.path.as_slice() == path {
-            each.number -= 1;
-            if each.number == 0 {
-                struck = true;
-            }
-        }
+        each.count(call, path);
     }
     struck
 }
@@ -44,6 +44,7 @@ fn strikes(failing: &mut [FailingFolder], call: FolderCall, path: &[u8]) -> bool
 impl MemFolder {
     ghost use Rattle.file_store.specs.declared.folder.FolderFault.TheVariants.{Failed};
     ghost use Rattle.file_store.specs.Folders.{HasReason};
+    ghost use Rattle.file_store.specs.FailingCalls.{failing_calls, failing_part_calls};
 
     /// Of files with a path of their own each, of which the first at a path counts.
     pub fn new(
@@ -53,6 +54,8 @@ impl MemFolder {
         failing_parts: List<FailingPart>,
     ) -> MemFolder
         ensures seen { ⟦<MemFolder as Folder>⟧.seen result ≡ made_of (files_in files.items) }
+        ensures calls { failing_calls result ≡ failing.items }
+        ensures part_calls { failing_part_calls result ≡ failing_parts.items }
     {
         MemFolder {
             alloc,
@@ -90,10 +93,29 @@ impl Folder for MemFolder {
     type Part = MemPart;
 
     ghost use Rattle.file_store.specs.InsideFolderSeen.{mem_folder_seen};
+    ghost use Rattle.page_base.specs.Lanes.{Rose};
+    ghost use Rattle.file_store.specs.Parts.{WhereTold};
+    ghost use Rattle.file_store.specs.Shelves.{any_out, Closes};
+    ghost use Rattle.file_store.specs.Folders.{HasFolderCause, IsFailed, RefusesHead, RefusesNew, RefusesWhole, OfFile};
+    ghost use Rattle.file_store.specs.Folders.{TellsLength, TellsHead, TellsMissing, TellsShort, WritesNew, OnlyFile};
+    ghost use Rattle.file_store.specs.Folders.{stripe_names, whole_name, need_of, OpensParts, AreMade, AreOut, IsOpenedWhole};
+    ghost use Rattle.file_store.specs.FailingLists.{is_listed, listed_for};
+    ghost use Rattle.file_store.specs.FailingCalls.{failing_calls, failing_part_calls, failing_in};
+    ghost use Rattle.file_store.specs.FailingCalls.{CountsCall, FailsAsListed, AreListedFor};
+    ghost use Rattle.file_store.specs.declared.files.FolderCall.TheVariants.{Length, ReadHead, WriteNew, OpenStriped, OpenWhole};
 
     ghost seen = { mem_folder_seen };
 
-    fn length(&mut self, path: &Bytes) -> Result<Option<u64>, FolderFault> {
+    fn length(&mut self, path: &Bytes) -> Result<Option<u64>, FolderFault>
+        ensures value { OfFile (⟦<MemFolder as Folder>⟧.seen self.old) path.now.items
+            (λ file. IfOk result (TellsLength file)) }
+        ensures only { IfErr result IsFailed }
+        ensures same { (⟦<MemFolder as Folder>⟧.seen self.new).told ≡ (⟦<MemFolder as Folder>⟧.seen self.old).told }
+        ensures cause { HasFolderCause (⟦<MemFolder as Folder>⟧.seen self.old).count
+            (⟦<MemFolder as Folder>⟧.seen self.new).count result }
+        ensures counts { CountsCall Length path.now.items self.old self.new }
+        ensures listed { FailsAsListed (is_listed Length path.now.items (failing_calls self.old)) result }
+    {
         if strikes(
             self.failing.as_mut_slice(),
             FolderCall::Length,
@@ -107,7 +129,17 @@ impl Folder for MemFolder {
         }
     }
 
-    fn read_head(&mut self, path: &Bytes, buf: &mut [u8]) -> Result<usize, FolderFault> {
+    fn read_head(&mut self, path: &Bytes, buf: &mut [u8]) -> Result<usize, FolderFault>
+        ensures within { IfOk result (λ n. n ≤ length buf.new) }
+        ensures only { IfErr result RefusesHead }
+        ensures bytes { OfFile (⟦<MemFolder as Folder>⟧.seen self.old) path.now.items
+            (λ file. TellsHead file buf.new result) }
+        ensures same { (⟦<MemFolder as Folder>⟧.seen self.new).told ≡ (⟦<MemFolder as Folder>⟧.seen self.old).told }
+        ensures cause { HasFolderCause (⟦<MemFolder as Folder>⟧.seen self.old).count
+            (⟦<MemFolder as Folder>⟧.seen self.new).count result }
+        ensures counts { CountsCall ReadHead path.now.items self.old self.new }
+        ensures listed { FailsAsListed (is_listed ReadHead path.now.items (failing_calls self.old)) result }
+    {
         let struck = strikes(
             self.failing.as_mut_slice(),
             FolderCall::ReadHead,
@@ -124,7 +156,17 @@ impl Folder for MemFolder {
         Ok(count)
     }
 
-    fn write_new(&mut self, path: &Bytes, bytes: &[u8]) -> Result<(), FolderFault> {
+    fn write_new(&mut self, path: &Bytes, bytes: &[u8]) -> Result<(), FolderFault>
+        requires absent { OfFile (⟦<MemFolder as Folder>⟧.seen self.old) path.now.items (λ file. file ≡ None) }
+        ensures written { OfFile (⟦<MemFolder as Folder>⟧.seen self.new) path.now.items (WritesNew bytes.now result) }
+        ensures only { IfErr result RefusesNew }
+        ensures others { WhereTold (OnlyFile path.now.items) (⟦<MemFolder as Folder>⟧.seen self.old).told
+            (⟦<MemFolder as Folder>⟧.seen self.new).told }
+        ensures cause { HasFolderCause (⟦<MemFolder as Folder>⟧.seen self.old).count
+            (⟦<MemFolder as Folder>⟧.seen self.new).count result }
+        ensures counts { CountsCall WriteNew path.now.items self.old self.new }
+        ensures listed { FailsAsListed (is_listed WriteNew path.now.items (failing_calls self.old)) result }
+    {
         if strikes(
             self.failing.as_mut_slice(),
             FolderCall::WriteNew,
@@ -149,7 +191,25 @@ impl Folder for MemFolder {
         Ok(())
     }
 
-    fn open_striped(&mut self, path: &Bytes, cut: &Cut) -> Result<List<MemPart>, FolderFault> {
+    fn open_striped(&mut self, path: &Bytes, cut: &Cut) -> Result<List<MemPart>, FolderFault>
+        requires none_out { IfSome (⟦<MemFolder as Folder>⟧.seen self.old).told
+            (λ s. any_out path.now.items s.out ≡ false) }
+        ensures count { IfOk result (λ parts. length parts.items ≡ cut.now.layout.stripes) }
+        ensures parts { OpensParts ⟦<MemPart as Part>⟧.seen
+            (⟦<MemFolder as Folder>⟧.seen self.old) path.now.items cut.now result }
+        ensures made { IfOk result (λ parts. AreMade ⟦<MemPart as Part>⟧.seen parts.items) }
+        ensures out { OnOk result (AreOut (stripe_names path.now.items cut.now) (⟦<MemFolder as Folder>⟧.seen self.old)
+            (⟦<MemFolder as Folder>⟧.seen self.new)) }
+        ensures err { OnErr result ((⟦<MemFolder as Folder>⟧.seen self.new).told ≡
+            (⟦<MemFolder as Folder>⟧.seen self.old).told) }
+        ensures missing { OfFile
+            (⟦<MemFolder as Folder>⟧.seen self.old) path.now.items (λ file. TellsMissing file (need_of cut.now) result) }
+        ensures cause { HasFolderCause (⟦<MemFolder as Folder>⟧.seen self.old).count
+            (⟦<MemFolder as Folder>⟧.seen self.new).count result }
+        ensures counts { CountsCall OpenStriped path.now.items self.old self.new }
+        ensures listed { FailsAsListed (is_listed OpenStriped path.now.items (failing_calls self.old)) result }
+        ensures lists { IfOk result (λ parts. AreListedFor path.now.items (failing_part_calls self.old) parts.items) }
+    {
         let struck = strikes(
             self.failing.as_mut_slice(),
             FolderCall::OpenStriped,
@@ -193,7 +253,26 @@ impl Folder for MemFolder {
         path: &Bytes,
         length: u64,
         writable: bool,
-    ) -> Result<MemPart, FolderFault> {
+    ) -> Result<MemPart, FolderFault>
+        requires none_out { IfSome (⟦<MemFolder as Folder>⟧.seen self.old).told
+            (λ s. any_out path.now.items s.out ≡ false) }
+        ensures part { IfOk result (λ p. IsOpenedWhole
+            (⟦<MemFolder as Folder>⟧.seen self.old).told path.now.items length
+            (⟦<MemPart as Part>⟧.seen p)) }
+        ensures out { OnOk result (AreOut (whole_name path.now.items length ∷ [])
+            (⟦<MemFolder as Folder>⟧.seen self.old)
+            (⟦<MemFolder as Folder>⟧.seen self.new)) }
+        ensures err { OnErr result ((⟦<MemFolder as Folder>⟧.seen self.new).told ≡
+            (⟦<MemFolder as Folder>⟧.seen self.old).told) }
+        ensures only { IfErr result RefusesWhole }
+        ensures short { OfFile (⟦<MemFolder as Folder>⟧.seen self.old) path.now.items
+            (λ file. TellsShort file length result) }
+        ensures cause { HasFolderCause (⟦<MemFolder as Folder>⟧.seen self.old).count
+            (⟦<MemFolder as Folder>⟧.seen self.new).count result }
+        ensures counts { CountsCall OpenWhole path.now.items self.old self.new }
+        ensures listed { FailsAsListed (is_listed OpenWhole path.now.items (failing_calls self.old)) result }
+        ensures lists { IfOk result (λ p. failing_in p ≡ listed_for path.now.items (failing_part_calls self.old)) }
+    {
         let _read_only = !writable;
         let struck = strikes(
             self.failing.as_mut_slice(),
@@ -236,7 +315,17 @@ impl Folder for MemFolder {
         Ok(part)
     }
 
-    fn close_part(&mut self, part: MemPart) {
+    fn close_part(&mut self, part: MemPart)
+        requires out { IfSome (⟦<MemFolder as Folder>⟧.seen self.old).told (λ s. Contains s.out
+            (⟦<MemPart as Part>⟧.seen part).name) }
+        ensures closed { WhereTold (Closes (⟦<MemPart as Part>⟧.seen part)) (⟦<MemFolder as Folder>⟧.seen self.old).told
+            (⟦<MemFolder as Folder>⟧.seen self.new).told }
+        ensures later { (⟦<MemFolder as Folder>⟧.seen self.old).count ≤ (⟦<MemFolder as Folder>⟧.seen self.new).count }
+        ensures faults { 0 < (⟦<MemPart as Part>⟧.seen part).count → Rose (⟦<MemFolder as Folder>⟧.seen self.old).count
+            (⟦<MemFolder as Folder>⟧.seen self.new).count }
+        ensures calls { failing_calls self.new ≡ failing_calls self.old }
+        ensures part_calls { failing_part_calls self.new ≡ failing_part_calls self.old }
+    {
         if part.faults() > 0 {
             self.faults = self.faults.saturating_add(1);
         }

@@ -1,8 +1,10 @@
 //! A part of a file in memory: a copy of the file's bytes as far as the part reaches, which is put back when it is closed.
-ghost use Rattle.std.specs.Prelude.{◌≡◌, ◌≤◌, ◌+◌, true, false, length, replicate};
+ghost use Rattle.std.specs.Prelude.{◌≡◌, ◌≤◌, ◌+◌, true, false, length, map, replicate, OnOk, OnErr};
+ghost use Rattle.std.specs.List.{list_any};
 ghost use Rattle.file_store.specs.Parts.{reach};
 ghost use Rattle.file_store.specs.Shelves.{number_of};
 ghost use Rattle.file_store.specs.InsideMemParts.{extent_of};
+ghost use Rattle.file_store.specs.FailingLists.{is_next_in, counted_in};
 
 use crate::files::{FailingPart, PartCall};
 use crate::folder::Cut;
@@ -49,16 +51,32 @@ pub struct MemPart {
     ghost zeros: { made ≡ false → bytes.items ≡ replicate (reach (extent_of path.items shape)) 0 },
 }
 
-/// Counts a call of this kind, and says whether it fails.
-fn strikes(failing: &mut [Failing], call: PartCall) -> bool {
-    let mut struck = false;
-    for each in failing.iter_mut() {
-        if each.call == call && each.left > 0 {
-            each.left -= 1;
-            if each.left == 0 {
-                struck = true;
-            }
+impl Failing {
+    // Whether the next call of this kind fails.
+    fn is_next(&self, call: PartCall) -> bool
+        ensures { result ≡ is_next_in call self.now }
+    {
+        self.call == call && self.left == 1
+    }
+
+    // Counts a call of this kind.
+    fn count(&mut self, call: PartCall)
+        ensures { self.new ≡ counted_in call self.old }
+    {
+        if self.call == call {
+            self.left = self.left.saturating_sub(1);
         }
+    }
+}
+
+/// Counts a call of this kind, and says whether it fails.
+fn strikes(failing: &mut [Failing], call: PartCall) -> bool
+    ensures struck { result ≡ list_any (is_next_in call) failing.old }
+    ensures counted { failing.new ≡ map (counted_in call) failing.old }
+{
+    let struck = failing.iter().any(|x| x.is_next(call));
+    for each in failing.iter_mut() {
+        each.count(call);
     }
     struck
 }
@@ -66,6 +84,7 @@ fn strikes(failing: &mut [Failing], call: PartCall) -> bool {
 impl MemPart {
     ghost use Rattle.page_base.specs.Lanes.{Rose};
     ghost use Rattle.file_store.specs.InsideMemSeen.{mem_seen, fresh_seen};
+    ghost use Rattle.file_store.specs.FailingCalls.{failing_in};
 
     pub(crate) fn new(
         path: Bytes,
@@ -76,7 +95,8 @@ impl MemPart {
     ) -> MemPart
         requires sized { length bytes.items ≡ reach (extent_of path.items shape) }
         requires zeros { made ≡ false → bytes.items ≡ replicate (reach (extent_of path.items shape)) 0 }
-        ensures { mem_seen result ≡ fresh_seen path.items shape bytes.items made }
+        ensures seen { mem_seen result ≡ fresh_seen path.items shape bytes.items made }
+        ensures lists { failing_in result ≡ failing.items }
     {
         MemPart {
             path,
@@ -105,6 +125,10 @@ impl MemPart {
 impl Part for MemPart {
     ghost use Rattle.file_store.specs.InsideMemParts.{extent_of, mem_named, mem_pieces_whole};
     ghost use Rattle.file_store.specs.InsideMemSeen.{mem_seen};
+    ghost use Rattle.store_trait.specs.Causes.{HasCause};
+    ghost use Rattle.file_store.specs.Parts.{IsRange, TellsRange, HasWritten, OthersStay, IsZeroed};
+    ghost use Rattle.file_store.specs.FailingCalls.{CountsIn};
+    ghost use Rattle.file_store.specs.declared.files.PartCall.TheVariants.{Make, Read, Write};
 
     ghost seen = { mem_seen };
 
@@ -112,7 +136,17 @@ impl Part for MemPart {
         self.made
     }
 
-    fn make(&mut self) -> Result<(), PartFault> {
+    fn make(&mut self) -> Result<(), PartFault>
+        requires not_made { (⟦<MemPart as Part>⟧.seen self.old).made ≡ false }
+        ensures ok { OnOk result ((⟦<MemPart as Part>⟧.seen self.new).made ≡ true) }
+        ensures err { OnErr result ((⟦<MemPart as Part>⟧.seen self.new).made ≡ false) }
+        ensures zeroed { OnOk result (IsZeroed (⟦<MemPart as Part>⟧.seen self.old).name.extent
+            (⟦<MemPart as Part>⟧.seen self.old).told (⟦<MemPart as Part>⟧.seen self.new).told) }
+        ensures name { (⟦<MemPart as Part>⟧.seen self.new).name ≡ (⟦<MemPart as Part>⟧.seen self.old).name }
+        ensures cause { HasCause (λ e. e.faults) (⟦<MemPart as Part>⟧.seen self.old).count
+            (⟦<MemPart as Part>⟧.seen self.new).count result }
+        ensures counts { CountsIn Make self.old self.new result }
+    {
         if strikes(self.failing.as_mut_slice(), PartCall::Make) {
             return Err(self.fail());
         }
@@ -120,7 +154,17 @@ impl Part for MemPart {
         Ok(())
     }
 
-    fn read_at(&mut self, buf: &mut [u8], place: u64) -> Result<(), PartFault> {
+    fn read_at(&mut self, buf: &mut [u8], place: u64) -> Result<(), PartFault>
+        requires made { (⟦<MemPart as Part>⟧.seen self.old).made ≡ true }
+        requires range { IsRange (⟦<MemPart as Part>⟧.seen self.old).name.extent place (length buf.old) }
+        ensures bytes { OnOk result (TellsRange (⟦<MemPart as Part>⟧.seen self.old) place buf.new) }
+        ensures same { (⟦<MemPart as Part>⟧.seen self.new).told ≡ (⟦<MemPart as Part>⟧.seen self.old).told }
+        ensures made { (⟦<MemPart as Part>⟧.seen self.new).made ≡ true }
+        ensures name { (⟦<MemPart as Part>⟧.seen self.new).name ≡ (⟦<MemPart as Part>⟧.seen self.old).name }
+        ensures cause { HasCause (λ e. e.faults) (⟦<MemPart as Part>⟧.seen self.old).count
+            (⟦<MemPart as Part>⟧.seen self.new).count result }
+        ensures counts { CountsIn Read self.old self.new result }
+    {
         if strikes(self.failing.as_mut_slice(), PartCall::Read) {
             return Err(self.fail());
         }
@@ -129,7 +173,19 @@ impl Part for MemPart {
         Ok(())
     }
 
-    fn write_at(&mut self, buf: &[u8], place: u64) -> Result<(), PartFault> {
+    fn write_at(&mut self, buf: &[u8], place: u64) -> Result<(), PartFault>
+        requires made { (⟦<MemPart as Part>⟧.seen self.old).made ≡ true }
+        requires range { IsRange (⟦<MemPart as Part>⟧.seen self.old).name.extent place (length buf.now) }
+        ensures written { OnOk result (HasWritten (⟦<MemPart as Part>⟧.seen self.old)
+            (⟦<MemPart as Part>⟧.seen self.new) place buf.now) }
+        ensures others { OthersStay (⟦<MemPart as Part>⟧.seen self.old)
+            (⟦<MemPart as Part>⟧.seen self.new) place (length buf.now) }
+        ensures made { (⟦<MemPart as Part>⟧.seen self.new).made ≡ true }
+        ensures name { (⟦<MemPart as Part>⟧.seen self.new).name ≡ (⟦<MemPart as Part>⟧.seen self.old).name }
+        ensures cause { HasCause (λ e. e.faults) (⟦<MemPart as Part>⟧.seen self.old).count
+            (⟦<MemPart as Part>⟧.seen self.new).count result }
+        ensures counts { CountsIn Write self.old self.new result }
+    {
         if strikes(self.failing.as_mut_slice(), PartCall::Write) {
             return Err(self.fail());
         }

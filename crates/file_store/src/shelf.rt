@@ -6,6 +6,8 @@ ghost use Rattle.file_store.specs.InsideFolders.{whole_seen, PutsStripe};
 ghost use Rattle.file_store.specs.InsideMemParts.{name_of};
 ghost use Rattle.file_store.specs.InsideMemSeen.{mem_seen, AreStripesOf};
 ghost use Rattle.file_store.specs.MemFiles.{files_in};
+ghost use Rattle.file_store.specs.FailingLists.{listed_for};
+ghost use Rattle.file_store.specs.FailingCalls.{failing_in, AreListedFor};
 ghost use Rattle.file_store.specs.InsideMemFolders.{out_in, IsFirstAt, HasLength, IsLongEnough, PutsPart, PutsFront, PutsStripeAt, OthersStayAt, TakesOneRoom};
 
 use crate::files::{FailingPart, MemFile, OutPart};
@@ -69,6 +71,7 @@ pub(crate) fn stripe_parts(
     requires { length bytes.now ≡ cut.now.pages * cut.now.layout.page_size }
     ensures count { IfOk result (λ parts. length parts.items ≡ cut.now.layout.stripes) }
     ensures parts { IfOk result (λ parts. AreStripesOf path.now cut.now bytes.now parts.items) }
+    ensures lists { IfOk result (λ parts. AreListedFor path.now failing.now parts.items) }
 {
     lists_by_place::<MemPart>();
     let stripes = cut.layout.stripes();
@@ -102,7 +105,9 @@ pub(crate) fn whole_part(
     failing: &[FailingPart],
 ) -> Result<MemPart, OutOfMemory>
     requires { MatchOption (file_at (files_in files.now) path.now) ⊤ (λ bytes. size ≤ length bytes) }
-    ensures { IfOk result (λ part. mem_seen part ≡ whole_seen path.now size (file_at (files_in files.now) path.now)) }
+    ensures seen { IfOk result
+        (λ part. mem_seen part ≡ whole_seen path.now size (file_at (files_in files.now) path.now)) }
+    ensures lists { IfOk result (λ part. failing_in part ≡ listed_for path.now failing.now) }
 {
     let own_path = Bytes::from_slice(alloc, path)?;
     let own_failing = failing_of(alloc, failing, path)?;
@@ -124,7 +129,9 @@ pub(crate) fn failing_of(
     alloc: Global,
     failing: &[FailingPart],
     path: &[u8],
-) -> Result<Vec<Failing>, OutOfMemory> {
+) -> Result<Vec<Failing>, OutOfMemory>
+    ensures { IfOk result (λ own. own.items ≡ listed_for path.now failing.now) }
+{
     let mut own = Vec::new(alloc);
     for each in failing {
         if each.path.as_slice() == path {
