@@ -267,7 +267,13 @@ static bool try_store(struct stripe *stripe, struct key key, uint32_t place, con
     return true;
 }
 
-/* The first bytes of a range, as many of them as lie in one page. */
+/* What is left of a range of a region. */
+struct range {
+    uint32_t region;
+    uint64_t off, length;
+};
+
+/* Bytes of one page. */
 struct piece {
     struct key key;
     struct stripe *stripe;
@@ -275,39 +281,36 @@ struct piece {
     size_t length;
 };
 
-static struct piece first_piece(uint32_t region, uint64_t off, uint64_t length)
+/* Takes the first bytes off a range, as many of them as lie in one page. */
+static struct piece take_piece(struct range *range)
 {
-    uint32_t page = (uint32_t)(off / PAGE_SIZE), place = off % PAGE_SIZE;
-    uint64_t rest = PAGE_SIZE - place;
+    uint32_t page = (uint32_t)(range->off / PAGE_SIZE), place = range->off % PAGE_SIZE;
+    uint64_t rest = PAGE_SIZE - place, length = range->length < rest ? range->length : rest;
+    range->off += length;
+    range->length -= length;
     return (struct piece){
-        .key = {region, page},
-        .stripe = &stripes[(region + page) % stripe_count],
+        .key = {range->region, page},
+        .stripe = &stripes[(range->region + page) % stripe_count],
         .place = place,
-        .length = length < rest ? length : rest,
+        .length = length,
     };
 }
 
-static void load(uint32_t region, uint64_t off, uint8_t *bytes, uint64_t length)
+static void load(struct range range, uint8_t *bytes)
 {
-    while (length > 0) {
-        struct piece piece = first_piece(region, off, length);
+    for (struct piece piece; range.length > 0; bytes += piece.length) {
+        piece = take_piece(&range);
         while (!try_load(piece.stripe, piece.key, piece.place, bytes, piece.length))
             serve(piece.stripe);
-        off += piece.length;
-        bytes += piece.length;
-        length -= piece.length;
     }
 }
 
-static void store(uint32_t region, uint64_t off, const uint8_t *bytes, uint64_t length)
+static void store(struct range range, const uint8_t *bytes)
 {
-    while (length > 0) {
-        struct piece piece = first_piece(region, off, length);
+    for (struct piece piece; range.length > 0; bytes += piece.length) {
+        piece = take_piece(&range);
         while (!try_store(piece.stripe, piece.key, piece.place, bytes, piece.length))
             serve(piece.stripe);
-        off += piece.length;
-        bytes += piece.length;
-        length -= piece.length;
     }
 }
 
@@ -375,12 +378,12 @@ int main(int argc, char **argv)
             reply_script(&replies, &line);
             break;
         case LOAD:
-            load(line.region, line.off, bytes, line.length);
+            load((struct range){line.region, line.off, line.length}, bytes);
             reply_load(&replies, bytes, line.length);
             break;
         case STORE:
             put_stored(bytes, &line);
-            store(line.region, line.off, bytes, line.length);
+            store((struct range){line.region, line.off, line.length}, bytes);
             reply_store(&replies);
             break;
         }
