@@ -5,7 +5,7 @@ use Rattle.page_base.specs.KeyOrder.{is_below}
 use Rattle.page_base.specs.Pages.{same}
 use Rattle.page_base.specs.declared.keys.Key.{Key}
 use Rattle.page_base.specs.declared.keys.Piece.{Piece}
-use Rattle.store_trait.specs.Memory.{page_of}
+use Rattle.store_trait.specs.Memory.{page_bytes}
 use Rattle.page_model.specs.declared.entry.Entry.{Entry}
 use Rattle.page_model.specs.declared.entry.Entry.TheVariants.{Load}
 use Rattle.page_model.specs.declared.seen.Pick.{Pick}
@@ -36,7 +36,7 @@ pub record WritesOver : Type 0 where
 -- of two pages put behind n others the first is read at its place, and begins before the second
 pub record PutsBehind : Type 0 where
   pub first : (size n : ℕ) (before one two : List ℕ) → length before ≡ n * size → length one ≡ size
-      → page_of size ((before ++ one) ++ two) n ≡ one
+      → page_bytes size ((before ++ one) ++ two) n ≡ one
   pub apart : (size n : ℕ) → n * size + size ≤ (n + 1) * size
 
 -- the first piece of a range lies where the range begins

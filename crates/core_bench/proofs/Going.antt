@@ -16,12 +16,12 @@ use Rattle.stripe_core.specs.declared.answers.Look.{Look}
 use Rattle.stripe_core.specs.declared.answers.Look.TheVariants as look
 use Rattle.stripe_core.specs.declared.answers.Raise.{Raise}
 use Rattle.stripe_core.specs.declared.answers.Raise.TheVariants as raise
-use Rattle.core_bench.specs.Hands.{GoesOn}
+use Rattle.core_bench.specs.Hands.{CoreGoesOn}
 
-pub same_goes : (c d : Core) → d ≡ c → GoesOn c d
-same_goes c d e = subst (GoesOn c) (sym e) (record { setup = refl; later = λ h s. record { history = h; is = s; flight = λ r. refl } })
+pub same_goes : (c d : Core) → d ≡ c → CoreGoesOn c d
+same_goes c d e = subst (CoreGoesOn c) (sym e) (record { setup = refl; later = λ h s. record { history = h; is = s; flight = λ r. refl } })
 
-pub goes_twice : (c d e : Core) → GoesOn c d → GoesOn d e → GoesOn c e
+pub goes_twice : (c d e : Core) → CoreGoesOn c d → CoreGoesOn d e → CoreGoesOn c e
 goes_twice c d e a b = record {
   setup = b.setup ∙ a.setup;
   later = λ h s.
@@ -32,18 +32,18 @@ goes_twice c d e a b = record {
 
 -- an entry that is neither a start nor an end
 pub entry_goes : (c d : Core) (e : Entry) → d.setup ≡ c.setup → ((h : History Entry) (o : ℕ) → StandsFor h c → StandsFor ((o, e) ∷ h) d)
-    → ((h : History Entry) (r : ℕ) → in_flight ((0, e) ∷ h) r ≡ in_flight h r) → GoesOn c d
+    → ((h : History Entry) (r : ℕ) → in_flight ((0, e) ∷ h) r ≡ in_flight h r) → CoreGoesOn c d
 entry_goes c d e setup stands flight = record { setup = setup; later = λ h s. record { history = (0, e) ∷ h; is = stands h 0 s; flight = flight h } }
 
 pub raise_goes : (c d : Core) (k : Key) (why : Why) (a : Raise) → d.setup ≡ c.setup
-    → (a ≡ raise.Raised → (h : History Entry) (o : ℕ) → StandsFor h c → StandsFor ((o, entry.Raised k why) ∷ h) d) → (a ≢ raise.Raised → d ≡ c) → GoesOn c d
+    → (a ≡ raise.Raised → (h : History Entry) (o : ℕ) → StandsFor h c → StandsFor ((o, entry.Raised k why) ∷ h) d) → (a ≢ raise.Raised → d ≡ c) → CoreGoesOn c d
 raise_goes c d k why raise.Raised setup stands same = entry_goes c d (entry.Raised k why) setup (stands refl) (λ h r. refl)
 raise_goes c d k why raise.Pending setup stands same = same_goes c d (same (λ e. absurd cc))
 raise_goes c d k why raise.QueueFull setup stands same = same_goes c d (same (λ e. absurd cc))
 
 pub look_goes : (c d : Core) (e : Entry) (a : Look) → d.setup ≡ c.setup
     → (a ≡ look.Hit → (h : History Entry) (o : ℕ) → StandsFor h c → StandsFor ((o, e) ∷ h) d) → (a ≢ look.Hit → d ≡ c)
-    → ((h : History Entry) (r : ℕ) → in_flight ((0, e) ∷ h) r ≡ in_flight h r) → GoesOn c d
+    → ((h : History Entry) (r : ℕ) → in_flight ((0, e) ∷ h) r ≡ in_flight h r) → CoreGoesOn c d
 look_goes c d e look.Hit setup stands same flight = entry_goes c d e setup (stands refl) flight
 look_goes c d e look.Missing setup stands same flight = same_goes c d (same (λ e. absurd cc))
 look_goes c d e look.Protected setup stands same flight = same_goes c d (same (λ e. absurd cc))

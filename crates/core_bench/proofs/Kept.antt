@@ -6,7 +6,7 @@ use Rattle.page_model.specs.Core.{Core}
 use Rattle.page_model.specs.InFlight.{in_flight}
 use Rattle.page_model.specs.Setups.{Setup, quota}
 use Rattle.page_model.specs.Stands.{StandsFor}
-use Rattle.core_bench.specs.Hands.{IsOneRegion, IsAtRest, GoesOn}
+use Rattle.core_bench.specs.Hands.{IsOneRegion, IsAtRest, CoreGoesOn}
 use Rattle.core_bench.proofs.Resting.{goes_rest}
 
 abbrev pub InHand : Core → (pages scratch frames : ℕ) → Type 0
@@ -16,7 +16,7 @@ pub kept : (c d : Core) (pages scratch frames : ℕ) → d.setup ≡ c.setup →
 kept c d pages scratch frames e s i =
     (s, subst (λ (u : Setup). IsOneRegion u pages) (sym e) i.1, i.2 ∙ sym (ap (λ (u : Setup). u.page_size) e), i.3 ∙ sym (ap quota e))
 
-pub goes : (c d : Core) (pages scratch frames : ℕ) → GoesOn c d → InHand c pages scratch frames → InHand d pages scratch frames
+pub goes : (c d : Core) (pages scratch frames : ℕ) → CoreGoesOn c d → InHand c pages scratch frames → InHand d pages scratch frames
 goes c d pages scratch frames on i = kept c d pages scratch frames on.setup (goes_rest c d on i.0) i
 
 -- by an event that makes this entry, which is neither a start nor an end

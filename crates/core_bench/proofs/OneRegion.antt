@@ -3,7 +3,7 @@ use Rattle.std.proofs.Common.{◌≡◌, ◌<◌, ℕ, length, true, refl, sym, 
 use Rattle.page_base.specs.declared.keys.Key.{Key}
 use Rattle.page_model.specs.Setups.{Setup, has_page, is_writable, regions}
 use Rattle.page_model.specs.Core.{Core}
-use Rattle.core_bench.specs.Hands.{IsOneRegion, GoesOn}
+use Rattle.core_bench.specs.Hands.{IsOneRegion, CoreGoesOn}
 
 abbrev pub key_of : ℕ → Key
 key_of page = record { region = 0; page = page }
@@ -17,5 +17,5 @@ writable s pages one = rw one.shapes refl
 pub counted : (s : Setup) (pages : ℕ) → IsOneRegion s pages → regions s ≡ 1
 counted s pages one = ap length one.shapes
 
-pub still : (c d : Core) (pages : ℕ) → GoesOn c d → IsOneRegion c.setup pages → IsOneRegion d.setup pages
+pub still : (c d : Core) (pages : ℕ) → CoreGoesOn c d → IsOneRegion c.setup pages → IsOneRegion d.setup pages
 still c d pages on one = subst (λ (u : Setup). IsOneRegion u pages) (sym on.setup) one

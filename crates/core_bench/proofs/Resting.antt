@@ -9,9 +9,9 @@ use Rattle.page_model.specs.Core as core
 use Rattle.page_model.specs.InFlight.{InFlight, in_flight, started, ended}
 use Rattle.page_model.specs.Readers.{ReadersAgree}
 use Rattle.page_model.specs.Setups.{regions}
-use Rattle.core_bench.specs.Hands.{IsAtRest, GoesOn}
+use Rattle.core_bench.specs.Hands.{IsAtRest, CoreGoesOn}
 
-pub goes_rest : (c d : core.Core) → GoesOn c d → IsAtRest c → IsAtRest d
+pub goes_rest : (c d : core.Core) → CoreGoesOn c d → IsAtRest c → IsAtRest d
 goes_rest c d on i = let l = on.later i.history i.is in record { history = l.history; is = l.is; flight = λ r. l.flight r ∙ i.flight r }
 
 -- every lane is home

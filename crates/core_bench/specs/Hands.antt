@@ -34,6 +34,6 @@ pub record Later (h : History Entry) (c : Core) : Type 0 where
   pub flight : (r : ℕ) → in_flight history r ≡ in_flight h r
 
 -- whatever history the stripe stood for went on, and no lane went out or came back
-pub record GoesOn (c d : Core) : Type 0 where
+pub record CoreGoesOn (c d : Core) : Type 0 where
   pub setup : d.setup ≡ c.setup
   pub later : (h : History Entry) → StandsFor h c → Later h d

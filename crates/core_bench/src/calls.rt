@@ -6,7 +6,7 @@ ghost use Rattle.page_model.specs.Core.{next};
 ghost use Rattle.page_model.specs.Events.{CanStartWrite};
 ghost use Rattle.page_model.specs.Setups.{has_page, is_writable};
 ghost use Rattle.page_model.specs.declared.seen.Next.TheVariants as serve;
-ghost use Rattle.core_bench.specs.Hands.{GoesOn, IsAtRest, Stands};
+ghost use Rattle.core_bench.specs.Hands.{CoreGoesOn, IsAtRest, Stands};
 
 use crate::asked::may_raise;
 use page_base::{Key, LEAST_PAGE_SIZE, Why};
@@ -23,7 +23,7 @@ pub fn raise_at<S: Store>(stripe: &mut Stripe<S>, key: Key, why: Why) -> Option<
     requires few { stripe.old.events + 1 ≤ 2 ^ 62 }
     requires page { has_page stripe.old.setup key ≡ true }
     requires writable { is_writable stripe.old.setup key.region ≡ true }
-    ensures on { GoesOn stripe.old stripe.new }
+    ensures on { CoreGoesOn stripe.old stripe.new }
     ensures events { stripe.new.events ≤ stripe.old.events + 1 }
 {
     if !may_raise(stripe, key, why) {
@@ -37,7 +37,7 @@ pub fn load_at<S: Store>(stripe: &mut Stripe<S>, key: Key, place: u32) -> Option
     requires few { stripe.old.events + 1 ≤ 2 ^ 62 }
     requires page { has_page stripe.old.setup key ≡ true }
     requires large { LEAST_PAGE_SIZE ≤ stripe.old.setup.page_size }
-    ensures on { GoesOn stripe.old stripe.new }
+    ensures on { CoreGoesOn stripe.old stripe.new }
 {
     if place >= LEAST_PAGE_SIZE {
         return None;
@@ -53,7 +53,7 @@ pub fn save_at<S: Store>(stripe: &mut Stripe<S>, key: Key, place: u32, byte: u8)
     requires page { has_page stripe.old.setup key ≡ true }
     requires writable { is_writable stripe.old.setup key.region ≡ true }
     requires large { LEAST_PAGE_SIZE ≤ stripe.old.setup.page_size }
-    ensures on { GoesOn stripe.old stripe.new }
+    ensures on { CoreGoesOn stripe.old stripe.new }
     ensures events { stripe.new.events ≤ stripe.old.events + 1 }
 {
     if place >= LEAST_PAGE_SIZE {
@@ -66,7 +66,7 @@ pub fn save_at<S: Store>(stripe: &mut Stripe<S>, key: Key, place: u32, byte: u8)
 pub fn open_next<S: Store>(stripe: &mut Stripe<S>)
     requires few { stripe.old.events + 1 ≤ 2 ^ 62 }
     requires stands { Stands stripe.old }
-    ensures on { GoesOn stripe.old stripe.new }
+    ensures on { CoreGoesOn stripe.old stripe.new }
     ensures events { stripe.new.events ≤ stripe.old.events + 1 }
 {
     if let Next::Open(_) = stripe.next() {
@@ -102,7 +102,7 @@ fn reopen<S: Store>(stripe: &mut Stripe<S>, key: Key, byte: Option<u8>) -> Optio
     requires page { has_page stripe.old.setup key ≡ true }
     requires writable { is_writable stripe.old.setup key.region ≡ true }
     requires large { LEAST_PAGE_SIZE ≤ stripe.old.setup.page_size }
-    ensures on { GoesOn stripe.old stripe.new }
+    ensures on { CoreGoesOn stripe.old stripe.new }
     ensures events { stripe.new.events ≤ stripe.old.events + 4 }
 {
     let byte = byte?;

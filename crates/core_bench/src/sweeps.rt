@@ -1,7 +1,7 @@
 //! Loads and stores of the pages in turn, many times over: what is timed.
 ghost use Rattle.std.specs.Prelude.{◌≡◌, ◌<◌, ◌≤◌, ◌+◌, length, true};
 ghost use Rattle.page_model.specs.Setups.{has_page, is_writable};
-ghost use Rattle.core_bench.specs.Hands.{GoesOn, IsOneRegion};
+ghost use Rattle.core_bench.specs.Hands.{CoreGoesOn, IsOneRegion};
 
 use page_base::Key;
 use store_trait::Store;
@@ -21,7 +21,7 @@ fn load_part<S: Store>(stripe: &mut Stripe<S>, key: Key, place: u32, buf: &mut [
     requires page { has_page stripe.old.setup key ≡ true }
     requires some { 0 < length buf.old }
     requires inside { place + length buf.old ≤ stripe.old.setup.page_size }
-    ensures on { GoesOn stripe.old stripe.new }
+    ensures on { CoreGoesOn stripe.old stripe.new }
     ensures below { result ≤ 1 }
     ensures size { length buf.new ≡ length buf.old }
 {
@@ -38,7 +38,7 @@ fn save_part<S: Store>(stripe: &mut Stripe<S>, key: Key, place: u32, bytes: &[u8
     requires writable { is_writable stripe.old.setup key.region ≡ true }
     requires some { 0 < length bytes.now }
     requires inside { place + length bytes.now ≤ stripe.old.setup.page_size }
-    ensures on { GoesOn stripe.old stripe.new }
+    ensures on { CoreGoesOn stripe.old stripe.new }
     ensures below { result ≤ 1 }
 {
     if stripe.events() < MOST_EVENTS && matches!(stripe.save(key, place, bytes), Look::Hit) {
@@ -54,7 +54,7 @@ fn load_each<S: Store>(stripe: &mut Stripe<S>, pages: u32, room: u32, buf: &mut 
     requires region { IsOneRegion stripe.old.setup pages }
     requires some { 0 < length buf.old }
     requires inside { room + length buf.old ≤ stripe.old.setup.page_size }
-    ensures on { GoesOn stripe.old stripe.new }
+    ensures on { CoreGoesOn stripe.old stripe.new }
     ensures below { result ≤ pages }
     ensures size { length buf.new ≡ length buf.old }
 {
@@ -72,7 +72,7 @@ fn save_each<S: Store>(stripe: &mut Stripe<S>, pages: u32, room: u32, bytes: &[u
     requires region { IsOneRegion stripe.old.setup pages }
     requires some { 0 < length bytes.now }
     requires inside { room + length bytes.now ≤ stripe.old.setup.page_size }
-    ensures on { GoesOn stripe.old stripe.new }
+    ensures on { CoreGoesOn stripe.old stripe.new }
     ensures below { result ≤ pages }
 {
     let mut hits = 0;
@@ -95,7 +95,7 @@ pub fn load_rounds<S: Store>(
     requires region { IsOneRegion stripe.old.setup pages }
     requires some { 0 < length buf.old }
     requires inside { room + length buf.old ≤ stripe.old.setup.page_size }
-    ensures on { GoesOn stripe.old stripe.new }
+    ensures on { CoreGoesOn stripe.old stripe.new }
 {
     let mut hits: u64 = 0;
     for _ in 0..rounds {
@@ -116,7 +116,7 @@ pub fn save_rounds<S: Store>(
     requires region { IsOneRegion stripe.old.setup pages }
     requires some { 0 < length bytes.now }
     requires inside { room + length bytes.now ≤ stripe.old.setup.page_size }
-    ensures on { GoesOn stripe.old stripe.new }
+    ensures on { CoreGoesOn stripe.old stripe.new }
 {
     let mut hits: u64 = 0;
     for _ in 0..rounds {

@@ -9,21 +9,21 @@ use Rattle.std.specs.Cmp.Derive.{both_true}
 use Rattle.std.specs.Prelude.{◌==◌, ◌&&◌, nat_lt}
 use Rattle.page_base.specs.Lanes.{Origin, has_page, told_at}
 use Rattle.page_base.specs.Pages.{stripe_of}
-use Rattle.store_trait.specs.Memory.{page_of, told_by}
+use Rattle.store_trait.specs.Memory.{page_bytes, told_by}
 use Rattle.file_store.specs.Shelves.{PutsPages, own_told}
 use Rattle.file_store.proofs.Rows.{told_of_page, page_of-spliced_other, page_of-spliced_same}
 
 -- so far the first k pages were
 pub record PutsUpTo (page_size : ℕ) (own : ℕ → Option (List ℕ)) (k : ℕ) (old new : List ℕ) : Type 0 where
   pub size : length new ≡ length old
-  pub each : (p : ℕ) → p < k → page_of page_size new p ≡ unwrap_or (own p) (page_of page_size old p)
+  pub each : (p : ℕ) → p < k → page_bytes page_size new p ≡ unwrap_or (own p) (page_bytes page_size old p)
   pub behind : (i d : ℕ) → k * page_size ≤ i → get_or new i d ≡ get_or old i d
 
 module _ (n k : ℕ) (own : ℕ → Option (List ℕ)) (old now : List ℕ) (so_far : PutsUpTo n own k old now) where
   row : k * n + n ≡ (k + 1) * n
   row = omega arith
 
-  same_page : page_of n now k ≡ page_of n old k
+  same_page : page_bytes n now k ≡ page_bytes n old k
   same_page = rw (add-sub_cancel_left (k * n) n) (same_lists _ _ (same_length) (λ j d h. grind (arith, places, so_far.behind (k * n + j) d)))
     where
       same_length : length (take n (drop (k * n) now)) ≡ length (take n (drop (k * n) old))
@@ -34,7 +34,7 @@ module _ (n k : ℕ) (own : ℕ → Option (List ℕ)) (old now : List ℕ) (so_
     size = so_far.size;
     each = λ p h. elim (cases_lt p k) [
       | inl below ↦ so_far.each p below
-      | inr above ↦ subst (λ (q : ℕ). page_of n now q ≡ unwrap_or (own q) (page_of n old q)) (at p h above) (same_page ∙ sym (ap (λ t. unwrap_or t (page_of n old k)) not_told))
+      | inr above ↦ subst (λ (q : ℕ). page_bytes n now q ≡ unwrap_or (own q) (page_bytes n old q)) (at p h above) (same_page ∙ sym (ap (λ t. unwrap_or t (page_bytes n old k)) not_told))
     ];
     behind = λ i d h. so_far.behind i d (omega (arith, row));
   }
@@ -47,7 +47,7 @@ module _ (n k : ℕ) (own : ℕ → Option (List ℕ)) (old now : List ℕ) (so_
     size = grind (arith, places, so_far.size);
     each = λ p h. elim (cases_lt p k) [
       | inl below ↦ page_of-spliced_other n k p now page len inside (λ e. absurd (omega arith)) ∙ so_far.each p below
-      | inr above ↦ subst (λ (q : ℕ). page_of n (spliced now (k * n) page) q ≡ unwrap_or (own q) (page_of n old q)) (at p h above) (page_of-spliced_same n k now page len inside ∙ sym (ap (λ t. unwrap_or t (page_of n old k)) its))
+      | inr above ↦ subst (λ (q : ℕ). page_bytes n (spliced now (k * n) page) q ≡ unwrap_or (own q) (page_bytes n old q)) (at p h above) (page_of-spliced_same n k now page len inside ∙ sym (ap (λ t. unwrap_or t (page_bytes n old k)) its))
     ];
     behind = λ i d h. past i d (omega (arith, row)) ∙ so_far.behind i d (omega (arith, row));
   }
@@ -69,8 +69,8 @@ put_all o told old new done = record {
 }
 
 -- which pages of a file are one stripe's
-pub own_page : (o : Origin) (bytes : List ℕ) (p : ℕ) → p < o.pages → stripe_of o.stripes o.group o.region p ≡ o.stripe → own_told o (told_by o (page_of o.page_size bytes)) p ≡ Some (page_of o.page_size bytes p)
-own_page o bytes p below is = cond-true (has_page o p) (told_at (told_by o (page_of o.page_size bytes)) p) None has ∙ told_of_page o (page_of o.page_size bytes) p has
+pub own_page : (o : Origin) (bytes : List ℕ) (p : ℕ) → p < o.pages → stripe_of o.stripes o.group o.region p ≡ o.stripe → own_told o (told_by o (page_bytes o.page_size bytes)) p ≡ Some (page_bytes o.page_size bytes p)
+own_page o bytes p below is = cond-true (has_page o p) (told_at (told_by o (page_bytes o.page_size bytes)) p) None has ∙ told_of_page o (page_bytes o.page_size bytes) p has
   where
     eq-eqb : (a b : ℕ) → a ≡ b → (a == b) ≡ true
     eq-eqb a b e = search rules

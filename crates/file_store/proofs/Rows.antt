@@ -6,7 +6,7 @@ use Rattle.std.proofs.lemmas.Nat.{mul-le}
 use Rattle.std.proofs.Math.Nat.{add-sub_cancel_left}
 use Rattle.page_base.specs.Lanes.{Origin, has_page, told_at}
 use Rattle.page_base.specs.ListSeen.{spliced}
-use Rattle.store_trait.specs.Memory.{page_of, told_by}
+use Rattle.store_trait.specs.Memory.{page_bytes, told_by}
 use Rattle.store_trait.specs.WholePages.{told_at-told_by}
 
 -- two rows of n lie apart
@@ -17,14 +17,14 @@ rows_apart i j n h = omega (arith, mul-le (i + 1) n j n (omega arith) (omega ari
 range_spliced : (xs new : List ℕ) (a b n : ℕ) → length new ≡ n → a + n ≤ length xs → (b + n ≤ a) ⊎ (a + n ≤ b) → take n (drop b (spliced xs a new)) ≡ take n (drop b xs)
 range_spliced xs new a b n e fits apart = same_lists _ _ (search (rules, places)) (λ k d h. grind (arith, places))
 
-pub page_of-spliced_other : (n i j : ℕ) (xs new : List ℕ) → length new ≡ n → i * n + n ≤ length xs → i ≢ j → page_of n (spliced xs (i * n) new) j ≡ page_of n xs j
+pub page_of-spliced_other : (n i j : ℕ) (xs new : List ℕ) → length new ≡ n → i * n + n ≤ length xs → i ≢ j → page_bytes n (spliced xs (i * n) new) j ≡ page_bytes n xs j
 page_of-spliced_other n i j xs new e fits apart = rw (add-sub_cancel_left (j * n) n) (range_spliced xs new (i * n) (j * n) n e fits (elim (cases_order i j) [
   | inl same ↦ absurd (apart same)
   | inr (inl lt) ↦ inr (rows_apart i j n lt)
   | inr (inr gt) ↦ inl (rows_apart j i n gt)
 ]))
 
-pub page_of-spliced_same : (n i : ℕ) (xs new : List ℕ) → length new ≡ n → i * n + n ≤ length xs → page_of n (spliced xs (i * n) new) i ≡ new
+pub page_of-spliced_same : (n i : ℕ) (xs new : List ℕ) → length new ≡ n → i * n + n ≤ length xs → page_bytes n (spliced xs (i * n) new) i ≡ new
 page_of-spliced_same n i xs new e fits = same_lists _ _ (search (rules, places)) (λ k d h. grind (arith, places))
 
 pub told_of_page : (o : Origin) (f : ℕ → List ℕ) (p : ℕ) → has_page o p ≡ true → told_at (told_by o f) p ≡ Some (f p)

@@ -5,7 +5,7 @@ use Rattle.std.specs.List.{range_with_len}
 use Rattle.page_base.specs.Backings.{in_file}
 use Rattle.page_base.specs.Lanes.{Origin, Rose}
 use Rattle.page_base.specs.ListSeen.{ListSeen}
-use Rattle.file_store.specs.Parts.{Extent, striped, whole, PartName, PartSeen, reach, pieces_of}
+use Rattle.file_store.specs.Parts.{Extent, striped, whole, PartName, PartSeen, reach, told_pieces}
 use Rattle.file_store.specs.Shelves.{Shelf, FolderSeen, file_at}
 use Rattle.file_store.specs.declared.folder.Cut.{Cut}
 use Rattle.file_store.specs.declared.folder.FolderFault.{FolderFault}
@@ -102,28 +102,28 @@ abbrev pub opened : List PartName → Shelf → Shelf
 opened names s = record { files = s.files; out = s.out ++ names }
 
 -- the bytes that a part holds of a file: its first, and zeros of one that is absent
-abbrev pub held : Extent → Option (List ℕ) → List ℕ
-held e None = replicate (reach e) 0
-held e (Some bytes) = take (reach e) bytes
+abbrev pub reached_bytes : Extent → Option (List ℕ) → List ℕ
+reached_bytes e None = replicate (reach e) 0
+reached_bytes e (Some bytes) = take (reach e) bytes
 
 abbrev pub whole_name : (path : List ℕ) → (size : ℕ) → PartName
 whole_name path size = record { path = path; extent = whole size }
 
 -- a part that was just opened; `told` are the told files
-pub record IsOpened (told : Option Shelf) (name : PartName) (part : PartSeen) : Type 0 where
+pub record IsPartOpened (told : Option Shelf) (name : PartName) (part : PartSeen) : Type 0 where
   pub name_is : part.name ≡ name
   pub fresh : part.count ≡ 0
   pub made : IfSome told (λ s. part.made ≡ is_some (file_at s.files name.path))
-  pub holds : IfSome told (λ s. part.told ≡ pieces_of name.extent (held name.extent (file_at s.files name.path)))
+  pub holds : IfSome told (λ s. part.told ≡ told_pieces name.extent (reached_bytes name.extent (file_at s.files name.path)))
 
 -- the s-th of the parts is stripe s's of the file at a path, just opened
-abbrev pub AreOpened : {P : Type 0} → (P → PartSeen) → Option Shelf → (path : List ℕ) → Cut → List P → Type 0
-AreOpened {P} seen told path cut parts =
-    (s : ℕ) (part : P) → slice_get parts s ≡ Some part → IsOpened told (stripe_name path cut s) (seen part)
+abbrev pub ArePartsOpened : {P : Type 0} → (P → PartSeen) → Option Shelf → (path : List ℕ) → Cut → List P → Type 0
+ArePartsOpened {P} seen told path cut parts =
+    (s : ℕ) (part : P) → slice_get parts s ≡ Some part → IsPartOpened told (stripe_name path cut s) (seen part)
 
 -- what was opened is so, a part for each stripe
 abbrev pub OpensParts : {P E : Type 0} → (P → PartSeen) → FolderSeen → (path : List ℕ) → Cut → Result (ListSeen P) E → Type 0
-OpensParts seen folder path cut result = IfOk result (λ parts. AreOpened seen folder.told path cut parts.items)
+OpensParts seen folder path cut result = IfOk result (λ parts. ArePartsOpened seen folder.told path cut parts.items)
 
 -- each of the parts has a file
 abbrev pub AreMade : {P : Type 0} → (P → PartSeen) → List P → Type 0
@@ -131,7 +131,7 @@ AreMade {P} seen parts = (s : ℕ) (part : P) → slice_get parts s ≡ Some par
 
 -- a part of the first bytes of the file at a path, just opened
 abbrev pub IsOpenedWhole : Option Shelf → (path : List ℕ) → (size : ℕ) → PartSeen → Type 0
-IsOpenedWhole told path size part = IsOpened told (whole_name path size) part
+IsOpenedWhole told path size part = IsPartOpened told (whole_name path size) part
 
 -- these parts are out too, where files are told
 abbrev pub AreOut : List PartName → (old new : FolderSeen) → Type 0

@@ -12,8 +12,8 @@ use Rattle.file_store.specs.declared.mem_part.Shape.{Shape}
 use Rattle.file_store.specs.declared.files.MemFile.{MemFile}
 use Rattle.file_store.specs.declared.files.OutPart.{OutPart}
 
-abbrev pub is_at : (path : List ℕ) → MemFile → Bool
-is_at path f = bytes_eq f.path.items path
+abbrev pub is_file_at : (path : List ℕ) → MemFile → Bool
+is_file_at path f = bytes_eq f.path.items path
 
 abbrev pub out_name : OutPart → PartName
 out_name x = name_of x.path.items x.shape
@@ -27,14 +27,14 @@ needs (striped o) = reach (striped o)
 needs (whole size) = 0
 
 -- each striped part that is out still finds its file as long as it needs
-abbrev pub AllFit : List File → List PartName → Type 0
-AllFit files out = All (λ (x : PartName). needs x.extent ≤ length (unwrap_or (file_at files x.path) [])) out
+abbrev pub AreLongEnough : List File → List PartName → Type 0
+AreLongEnough files out = All (λ (x : PartName). needs x.extent ≤ length (unwrap_or (file_at files x.path) [])) out
 
 -- this is the first of the files at a path
 pub record IsFirstAt (path : List ℕ) (files : List MemFile) (at : ℕ) : Type 0 where
   pub inside : at < length files
-  pub here : (d : MemFile) → is_at path (slice_index_or files at d) ≡ true
-  pub before : (k : ℕ) (d : MemFile) → k < at → is_at path (slice_index_or files k d) ≡ false
+  pub here : (d : MemFile) → is_file_at path (slice_index_or files at d) ≡ true
+  pub before : (k : ℕ) (d : MemFile) → k < at → is_file_at path (slice_index_or files k d) ≡ false
 
 -- a part was put back into these files
 pub record PutsPart (part : PartSeen) (old new : List File) : Type 0 where

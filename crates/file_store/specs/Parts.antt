@@ -5,7 +5,7 @@ use Rattle.page_base.specs.Backings.{in_file}
 use Rattle.page_base.specs.Lanes.{Origin, told_at}
 use Rattle.page_base.specs.ListSeen.{spliced}
 use Rattle.store_trait.specs.Lanes.{IsPlace, ChangesOnly, retold}
-use Rattle.store_trait.specs.Memory.{told_by, page_of}
+use Rattle.store_trait.specs.Memory.{told_by, page_bytes}
 
 -- what of a file a part is: one stripe's pages, or its first bytes
 pub data Extent : Type 0 where
@@ -29,9 +29,9 @@ pub record PartSeen : Type 0 where
   pub count : ℕ
 
 -- n bytes from `place` on are what one call may read or write
-abbrev pub IsRange : Extent → (place n : ℕ) → Type 0
-IsRange (striped o) place n = IsPlace o n place
-IsRange (whole size) place n = place + n ≤ size
+abbrev pub IsPartRange : Extent → (place n : ℕ) → Type 0
+IsPartRange (striped o) place n = IsPlace o n place
+IsPartRange (whole size) place n = place + n ≤ size
 
 -- the piece that lies at a place
 abbrev pub piece_at : Extent → (place : ℕ) → ℕ
@@ -48,9 +48,9 @@ reach (striped o) = o.pages * o.page_size
 reach (whole size) = size
 
 -- what a part tells over these bytes of its file
-abbrev pub pieces_of : Extent → List ℕ → List (Option (List ℕ))
-pieces_of (striped o) bytes = told_by o (page_of o.page_size bytes)
-pieces_of (whole size) bytes = Some bytes ∷ []
+abbrev pub told_pieces : Extent → List ℕ → List (Option (List ℕ))
+told_pieces (striped o) bytes = told_by o (page_bytes o.page_size bytes)
+told_pieces (whole size) bytes = Some bytes ∷ []
 
 -- these are the bytes of a piece from `place` on, where it is told
 abbrev pub IsRangeOf : Extent → (place : ℕ) → Option (List ℕ) → List ℕ → Type 0

@@ -99,7 +99,7 @@ fn write_file<R: Files<File = File>>(rt: &R, path: &Bytes, bytes: &[u8]) -> io::
 impl<R: Files<File = File> + Clone + Drop> DirFolder<R> {
     ghost use Rattle.std.specs.Prelude.{IfErr};
     ghost use Rattle.file_store.specs.Folders.{HasReason, IsFailed};
-    ghost use Rattle.file_store.specs.InsideDirParts.{IsFresh};
+    ghost use Rattle.file_store.specs.InsideDirParts.{IsFreshPart};
 
     /// The folder that the program runs in.
     pub fn new(alloc: Global, rt: R) -> DirFolder<R>
@@ -132,7 +132,7 @@ impl<R: Files<File = File> + Clone + Drop> DirFolder<R> {
         length: u64,
         made: bool,
     ) -> Result<DirPart<R>, FolderFault>
-        ensures part { IfOk result (IsFresh path.now shape made) }
+        ensures part { IfOk result (IsFreshPart path.now shape made) }
         ensures memory { IfErr result (λ e. e ≡ FolderFault.OutOfMemory) }
     {
         let rt = self.rt.clone().map_err(|_| FolderFault::OutOfMemory)?;

@@ -5,7 +5,7 @@
 ghost use Rattle.std.specs.Prelude.{◌≡◌, ◌<◌, ◌≤◌, ◌+◌, false, [], ◌∷◌, length, map, None, Some, vec_capacity, OnOk, OnErr, IfOk, IfErr, IfSome};
 ghost use Rattle.std.specs.List.{list_any, Contains};
 ghost use Rattle.file_store.specs.MemFiles.{files_in, made_of, told_files};
-ghost use Rattle.file_store.specs.InsideMemFolders.{out_in, AllFit};
+ghost use Rattle.file_store.specs.InsideMemFolders.{out_in, AreLongEnough};
 ghost use Rattle.file_store.specs.FailingLists.{is_next, counted};
 
 use crate::files::{FailingFolder, FailingPart, FolderCall, MemFile, OutPart};
@@ -25,7 +25,7 @@ pub struct MemFolder {
     failing: Vec<FailingFolder>,
     failing_parts: Vec<FailingPart>,
     faults: u64,
-    ghost fit: { AllFit (files_in files.items) (out_in out.items) },
+    ghost fit: { AreLongEnough (files_in files.items) (out_in out.items) },
     ghost room: { length files.items + length out.items ≤ vec_capacity files },
 }
 

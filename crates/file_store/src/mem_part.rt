@@ -2,7 +2,7 @@
 ghost use Rattle.std.specs.Prelude.{◌≡◌, ◌≤◌, ◌+◌, true, false, length, map, replicate, OnOk, OnErr};
 ghost use Rattle.std.specs.List.{list_any};
 ghost use Rattle.file_store.specs.Parts.{reach};
-ghost use Rattle.file_store.specs.Shelves.{number_of};
+ghost use Rattle.file_store.specs.Shelves.{part_number};
 ghost use Rattle.file_store.specs.InsideMemParts.{extent_of};
 ghost use Rattle.file_store.specs.FailingLists.{is_next_in, counted_in};
 
@@ -22,7 +22,7 @@ pub enum Shape {
 impl Shape {
     /// The number of the part among those of its path.
     pub fn number(self) -> u32
-        ensures { (path : _) → result ≡ number_of (extent_of path self) }
+        ensures { (path : _) → result ≡ part_number (extent_of path self) }
     {
         match self {
             Shape::Striped { stripe, .. } => stripe,
@@ -126,7 +126,7 @@ impl Part for MemPart {
     ghost use Rattle.file_store.specs.InsideMemParts.{extent_of, mem_named, mem_pieces_whole};
     ghost use Rattle.file_store.specs.InsideMemSeen.{mem_seen};
     ghost use Rattle.store_trait.specs.Causes.{HasCause};
-    ghost use Rattle.file_store.specs.Parts.{IsRange, TellsRange, HasWritten, OthersStay, IsZeroed};
+    ghost use Rattle.file_store.specs.Parts.{IsPartRange, TellsRange, HasWritten, OthersStay, IsZeroed};
     ghost use Rattle.file_store.specs.FailingCalls.{CountsIn};
     ghost use Rattle.file_store.specs.declared.files.PartCall.TheVariants.{Make, Read, Write};
 
@@ -156,7 +156,7 @@ impl Part for MemPart {
 
     fn read_at(&mut self, buf: &mut [u8], place: u64) -> Result<(), PartFault>
         requires made { (⟦<MemPart as Part>⟧.seen self.old).made ≡ true }
-        requires range { IsRange (⟦<MemPart as Part>⟧.seen self.old).name.extent place (length buf.old) }
+        requires range { IsPartRange (⟦<MemPart as Part>⟧.seen self.old).name.extent place (length buf.old) }
         ensures bytes { OnOk result (TellsRange (⟦<MemPart as Part>⟧.seen self.old) place buf.new) }
         ensures same { (⟦<MemPart as Part>⟧.seen self.new).told ≡ (⟦<MemPart as Part>⟧.seen self.old).told }
         ensures made { (⟦<MemPart as Part>⟧.seen self.new).made ≡ true }
@@ -175,7 +175,7 @@ impl Part for MemPart {
 
     fn write_at(&mut self, buf: &[u8], place: u64) -> Result<(), PartFault>
         requires made { (⟦<MemPart as Part>⟧.seen self.old).made ≡ true }
-        requires range { IsRange (⟦<MemPart as Part>⟧.seen self.old).name.extent place (length buf.now) }
+        requires range { IsPartRange (⟦<MemPart as Part>⟧.seen self.old).name.extent place (length buf.now) }
         ensures written { OnOk result (HasWritten (⟦<MemPart as Part>⟧.seen self.old)
             (⟦<MemPart as Part>⟧.seen self.new) place buf.now) }
         ensures others { OthersStay (⟦<MemPart as Part>⟧.seen self.old)

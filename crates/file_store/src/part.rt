@@ -5,7 +5,7 @@
 ghost use Rattle.std.specs.Prelude.{◌≡◌, ℕ, true, false, length, OnOk, OnErr, IfSome};
 ghost use Rattle.page_base.specs.Lanes.{told_at};
 ghost use Rattle.store_trait.specs.Causes.{HasCause};
-ghost use Rattle.file_store.specs.Parts.{PartSeen, IsRange, piece_size, TellsRange, HasWritten, OthersStay, IsZeroed, IsNamed};
+ghost use Rattle.file_store.specs.Parts.{PartSeen, IsPartRange, piece_size, TellsRange, HasWritten, OthersStay, IsZeroed, IsNamed};
 
 use thiserror::Error;
 
@@ -37,7 +37,7 @@ pub trait Part {
     /// Reads the bytes from `place` on. After a fault `buf` holds any bytes.
     fn read_at(&mut self, buf: &mut [u8], place: u64) -> Result<(), PartFault>
         requires made { (seen self.old).made ≡ true }
-        requires range { IsRange (seen self.old).name.extent place (length buf.old) }
+        requires range { IsPartRange (seen self.old).name.extent place (length buf.old) }
         ensures bytes { OnOk result (TellsRange (seen self.old) place buf.new) }
         ensures same { (seen self.new).told ≡ (seen self.old).told }
         ensures made { (seen self.new).made ≡ true }
@@ -47,7 +47,7 @@ pub trait Part {
     /// Writes the bytes from `place` on. After a fault any bytes may stand there.
     fn write_at(&mut self, buf: &[u8], place: u64) -> Result<(), PartFault>
         requires made { (seen self.old).made ≡ true }
-        requires range { IsRange (seen self.old).name.extent place (length buf.now) }
+        requires range { IsPartRange (seen self.old).name.extent place (length buf.now) }
         ensures written { OnOk result (HasWritten (seen self.old) (seen self.new) place buf.now) }
         ensures others { OthersStay (seen self.old) (seen self.new) place (length buf.now) }
         ensures made { (seen self.new).made ≡ true }

@@ -9,7 +9,7 @@ pub record ArenaId : Type 0 where
   pub names : List ℕ
 
 -- a frame: of which arena, its number there, and what its page holds
-pub record FrameSeen : Type 0 where
+pub record ArenaFrame : Type 0 where
   pub arena : ArenaId
   pub number : ℕ
   pub bytes : List ℕ
@@ -18,10 +18,10 @@ pub record FrameSeen : Type 0 where
 pub record ArenaSeen : Type 0 where
   pub arena : ArenaId
   pub frames : ℕ
-  pub slots : List (Option FrameSeen)
+  pub slots : List (Option ArenaFrame)
 
 -- how many slots have a frame
-abbrev pub held : List (Option FrameSeen) → ℕ
+abbrev pub held : List (Option ArenaFrame) → ℕ
 held [] = 0
 held (None ∷ slots) = held slots
 held (Some frame ∷ slots) = suc (held slots)
@@ -31,7 +31,7 @@ abbrev pub home : ArenaSeen → ℕ
 home arena = held arena.slots
 
 -- the arena with this in the slot of the number
-abbrev pub with_slot : ArenaSeen → ℕ → Option FrameSeen → ArenaSeen
+abbrev pub with_slot : ArenaSeen → ℕ → Option ArenaFrame → ArenaSeen
 with_slot arena number slot = record arena { slots = slice_set arena.slots number slot }
 
 -- new bytes over the first of the old ones, at their length
@@ -39,5 +39,5 @@ abbrev pub refilled : List ℕ → List ℕ → List ℕ
 refilled old bytes = take (length old) (bytes ++ drop (length bytes) old)
 
 -- the frame with its page written over
-abbrev pub with_bytes : FrameSeen → List ℕ → FrameSeen
+abbrev pub with_bytes : ArenaFrame → List ℕ → ArenaFrame
 with_bytes frame bytes = record frame { bytes = refilled frame.bytes bytes }

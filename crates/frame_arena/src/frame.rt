@@ -7,7 +7,7 @@ ghost use Rattle.std.specs.Prelude.{◌≡◌, ◌+◌, ◌*◌, ◌^◌, ◌<�
 ghost use Rattle.std.specs.Borrow.{Lends, Array, sem, u8 as byte};
 ghost use denote.RawPtr.{◌+ₚ◌, count_of};
 ghost use Rattle.frame_arena.specs.Frames.{with_bytes};
-ghost use Rattle.frame_arena.specs.InsideArenas.{id_before, place_of};
+ghost use Rattle.frame_arena.specs.InsideArenas.{id_before, address_of};
 ghost use Rattle.frame_arena.specs.InsideOwnership.{IsPlaced};
 ghost use Rattle.frame_arena.specs.contracts.frame.Frame.{the_row};
 
@@ -25,12 +25,12 @@ pub struct Frame {
 }
 
 impl Model for Frame {
-    ghost use Rattle.frame_arena.specs.Frames.{FrameSeen};
-    ghost use Rattle.frame_arena.specs.InsideArenas.{frame_seen, IsFrame};
+    ghost use Rattle.frame_arena.specs.Frames.{ArenaFrame};
+    ghost use Rattle.frame_arena.specs.InsideArenas.{arena_frame, IsFrame};
 
-    ghost Value = { FrameSeen };
+    ghost Value = { ArenaFrame };
 
-    ghost view = { λ f. frame_seen f.page f.number f.ticket.names };
+    ghost view = { λ f. arena_frame f.page f.number f.ticket.names };
 
     ghost invariant = { λ f. IsFrame f.page f.number f.ticket.number f.ticket.names };
 }
@@ -96,7 +96,7 @@ impl Frame {
 
     /// The frame's part of the block.
     pub(crate) fn into_piece(self) -> Piece
-        ensures place { result.place ≡ place_of self }
+        ensures place { result.place ≡ address_of self }
         ensures bytes { result.bytes ≡ self.bytes }
         ensures size { length result.bytes ≡ self.arena.page_size }
     {

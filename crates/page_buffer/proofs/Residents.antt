@@ -9,7 +9,7 @@ use Rattle.page_base.specs.Pages.{same}
 use Rattle.index_lists.specs.Lists as lists
 use Rattle.page_buffer.specs.Frames.{FrameSeen, Free, Reserved, Resident, page_of, refilled, is_resident, is_for}
 use Rattle.page_buffer.specs.Buffers.{BufferSeen, without}
-use Rattle.page_buffer.specs.Insides.{page_in, residents_seen, IsOrdered}
+use Rattle.page_buffer.specs.Insides.{key_in, residents_seen, IsOrdered}
 use Rattle.page_buffer.proofs.Keys.{same_self}
 use Rattle.page_buffer.proofs.Counts.{one, count_by-cons, count_by-two, count_by-without}
 use Rattle.page_buffer.proofs.Sound.{Holds, placed_in}
@@ -25,19 +25,19 @@ map_agree g h (x ∷ xs) agree =
 -- one frame changes that isn't in the order
 pub residents_kept : (frames : List FrameSeen) (order : List ℕ) (f : ℕ) (y : FrameSeen) → placed_in f order ≡ 0 → residents_seen (slice_set frames f y) order ≡ residents_seen frames order
 residents_kept frames order f y none =
-    map_agree (page_in (slice_set frames f y)) (page_in frames) order
+    map_agree (key_in (slice_set frames f y)) (key_in frames) order
     (λ n there. ap page_of (get_or-set_other frames f n y Free (λ e. (let was : placed_in n order ≡ 0 = subst (λ m. placed_in m order ≡ 0) (sym e) none in omega arith))))
 
 -- one frame changes and stays for its page
 pub residents_same : (frames : List FrameSeen) (order : List ℕ) (f : ℕ) (x y : FrameSeen) → Holds frames f x → page_of y ≡ page_of x → residents_seen (slice_set frames f y) order ≡ residents_seen frames order
-residents_same frames order f x y at same_page = map_agree (page_in (slice_set frames f y)) (page_in frames) order (λ n there. by_number n (cases_eq n f))
+residents_same frames order f x y at same_page = map_agree (key_in (slice_set frames f y)) (key_in frames) order (λ n there. by_number n (cases_eq n f))
   where
-    by_number : (n : ℕ) → (n ≡ f) ⊎ (n ≢ f) → page_in (slice_set frames f y) n ≡ page_in frames n
-    by_number n (inl e) = subst (λ m. page_in (slice_set frames f y) m ≡ page_in frames m) (sym e) (ap page_of (get_or-set_same frames f y Free at.within) ∙ (same_page ∙ sym (ap page_of at.is)))
+    by_number : (n : ℕ) → (n ≡ f) ⊎ (n ≢ f) → key_in (slice_set frames f y) n ≡ key_in frames n
+    by_number n (inl e) = subst (λ m. key_in (slice_set frames f y) m ≡ key_in frames m) (sym e) (ap page_of (get_or-set_same frames f y Free at.within) ∙ (same_page ∙ sym (ap page_of at.is)))
     by_number n (inr differs) = ap page_of (get_or-set_other frames f n y Free differs)
 
-pub residents_pushed : (frames : List FrameSeen) (order : List ℕ) (f : ℕ) → residents_seen frames (order ++ f ∷ []) ≡ residents_seen frames order ++ page_in frames f ∷ []
-residents_pushed frames order f = map-append (page_in frames) order (f ∷ [])
+pub residents_pushed : (frames : List FrameSeen) (order : List ℕ) (f : ℕ) → residents_seen frames (order ++ f ∷ []) ≡ residents_seen frames order ++ key_in frames f ∷ []
+residents_pushed frames order f = map-append (key_in frames) order (f ∷ [])
 
 -- ---- a page leaves
 
@@ -80,19 +80,19 @@ pub residents_released : (frames : List FrameSeen) (order : List ℕ) (f : ℕ) 
     → residents_seen (slice_set frames f Free) (lists.without f order) ≡ without key (residents_seen frames order)
 residents_released frames order f key bytes s at =
     residents_kept frames (lists.without f order) f Free (count_by-without (λ other. other == f) order)
-    ∙ sym (map-without (page_in frames) key f order (λ n there. by_number n there (cases_eq n f)))
+    ∙ sym (map-without (key_in frames) key f order (λ n there. by_number n there (cases_eq n f)))
   where
-    here : page_in frames f ≡ key
+    here : key_in frames f ≡ key
     here = ap page_of at.is
 
-    by_number : (n : ℕ) → 1 ≤ placed_in n order → (n ≡ f) ⊎ (n ≢ f) → same (page_in frames n) key ≡ (n == f)
-    by_number n there (inl e) = ap (λ (k : Key). same k key) (ap (page_in frames) e ∙ here) ∙ (same_self key ∙ sym (eq-eqb n f e))
-    by_number n there (inr differs) = neither (same (page_in frames n) key) (n == f) refl refl
+    by_number : (n : ℕ) → 1 ≤ placed_in n order → (n ≡ f) ⊎ (n ≢ f) → same (key_in frames n) key ≡ (n == f)
+    by_number n there (inl e) = ap (λ (k : Key). same k key) (ap (key_in frames) e ∙ here) ∙ (same_self key ∙ sym (eq-eqb n f e))
+    by_number n there (inr differs) = neither (same (key_in frames n) key) (n == f) refl refl
       where
         two : is_for key (slice_index_or frames n Free) ≡ true → ⊥
         two passes = apart_in frames key n f (resident_there frames order n s there).1 at.within differs passes (ap (is_for key) at.is ∙ same_self key) (s.once key)
 
-        neither : (a b : Bool) → same (page_in frames n) key ≡ a → (n == f) ≡ b → a ≡ b
+        neither : (a b : Bool) → same (key_in frames n) key ≡ a → (n == f) ≡ b → a ≡ b
         neither a true e is = absurd (differs (eqb-true n f is))
         neither false false e is = refl
         neither true false e is = absurd (two (is_for_page (slice_index_or frames n Free) key (resident_there frames order n s there).0 e))

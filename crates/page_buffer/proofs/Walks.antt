@@ -10,7 +10,7 @@ use Rattle.std.proofs.lemmas.Option.{slice_get_within, slice_get_past, get_or_fr
 use Rattle.page_base.specs.declared.keys.Key.{Key}
 use Rattle.page_buffer.specs.Frames.{FrameSeen, Free, is_resident}
 use Rattle.page_buffer.specs.Buffers.{IsFirst}
-use Rattle.page_buffer.specs.Insides.{page_in, residents_seen, IsOrdered}
+use Rattle.page_buffer.specs.Insides.{key_in, residents_seen, IsOrdered}
 use Rattle.page_buffer.proofs.Counts.{count_by-has}
 use Rattle.page_buffer.proofs.Sound.{placed_in}
 use Rattle.page_buffer.proofs.Residents.{resident_there}
@@ -19,7 +19,7 @@ use Rattle.page_buffer.proofs.Residents.{resident_there}
 pub record IsAt (frames : List FrameSeen) (order : List ℕ) (place frame : ℕ) : Type 0 where
   pub resident : is_resident (slice_index_or frames frame Free) ≡ true
   pub within : frame < length frames
-  pub page : slice_get (residents_seen frames order) place ≡ Some (page_in frames frame)
+  pub page : slice_get (residents_seen frames order) place ≡ Some (key_in frames frame)
 
 pub at_place : (frames : List FrameSeen) (order : List ℕ) (place frame : ℕ) → IsOrdered frames order → slice_get order place ≡ Some frame → IsAt frames order place frame
 at_place frames order place frame s here =
@@ -27,11 +27,11 @@ at_place frames order place frame s here =
     let is : slice_index_or order place frame ≡ frame = get_or_from_slice_get order place frame frame here in
     let there : 1 ≤ placed_in frame order = count_by-has (λ other. other == frame) order place frame within (eq-eqb _ _ is) in
     let r = resident_there frames order frame s there in
-    record { resident = r.0; within = r.1; page = slice_get-map (page_in frames) order place ∙ ap (option_map (page_in frames)) here }
+    record { resident = r.0; within = r.1; page = slice_get-map (key_in frames) order place ∙ ap (option_map (key_in frames)) here }
 
 -- past the end there is no page
 pub past_end : (frames : List FrameSeen) (order : List ℕ) (place : ℕ) → slice_get order place ≡ None → slice_get (residents_seen frames order) place ≡ None
-past_end frames order place here = slice_get-map (page_in frames) order place ∙ ap (option_map (page_in frames)) here
+past_end frames order place here = slice_get-map (key_in frames) order place ∙ ap (option_map (key_in frames)) here
 
 -- and so, behind a place with none
 pub none_behind : (order : List ℕ) (place later : ℕ) → place ≤ later → slice_get order place ≡ None → slice_get order later ≡ None
@@ -45,7 +45,7 @@ pub contained : (keys : List Key) (place : ℕ) (key : Key) → slice_get keys p
 contained keys place key here = (place, slice_get_within keys place key here, get_or_from_slice_get keys place key key here)
 
 -- the page that was read there
-pub key_at : (frames : List FrameSeen) (order : List ℕ) (place frame : ℕ) (key : Key) → IsOrdered frames order → slice_get order place ≡ Some frame → key ≡ page_in frames frame → slice_get (residents_seen frames order) place ≡ Some key
+pub key_at : (frames : List FrameSeen) (order : List ℕ) (place frame : ℕ) (key : Key) → IsOrdered frames order → slice_get order place ≡ Some frame → key ≡ key_in frames frame → slice_get (residents_seen frames order) place ≡ Some key
 key_at frames order place frame key s here page = (at_place frames order place frame s here).page ∙ ap (λ (k : Key). Some k) (sym page)
 
 -- a page that fails the test, behind others that do
@@ -60,4 +60,4 @@ first_here answers keys place key before here passes = record { place = place; i
 
 -- all of them fail
 pub all_fail : (answers : Key → Bool → Type 0) (frames : List FrameSeen) (order : List ℕ) (place : ℕ) → length order ≤ place → All (λ (k : Key). answers k false) (take place (residents_seen frames order)) → All (λ (k : Key). answers k false) (residents_seen frames order)
-all_fail answers frames order place end before = let many = length-map order (page_in frames) in rw (take_all place (residents_seen frames order) (omega arith)) at before
+all_fail answers frames order place end before = let many = length-map order (key_in frames) in rw (take_all place (residents_seen frames order) (omega arith)) at before

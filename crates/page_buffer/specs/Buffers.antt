@@ -66,6 +66,6 @@ Computes answers passes keys = (key : Key) (answer : Bool) → Contains keys key
 abbrev pub FindsComputed : (Key → Bool → Type 0) → List Key → Option Key → Type 0
 FindsComputed answers keys found = (passes : Key → Bool) → Computes answers passes keys → found ≡ find passes keys
 
--- whether a stripe evicts, by its resident pages: from the upper mark on, not from the lower mark down, and in between as before
-abbrev pub evicts : Bool → Marks → ℕ → Bool
-evicts before marks residents = if nat_le marks.on residents then true else (if nat_le residents marks.off then false else before)
+-- whether a stripe evicts_further, by its resident pages: from the upper mark on, not from the lower mark down, and in between as before
+abbrev pub evicts_further : Bool → Marks → ℕ → Bool
+evicts_further before marks residents = if nat_le marks.on residents then true else (if nat_le residents marks.off then false else before)

@@ -21,12 +21,12 @@ abbrev pub frames_seen : List Frame → List FrameSeen
 frames_seen frames = map frame_seen frames
 
 -- the page that a frame is for, by its number
-abbrev pub page_in : List FrameSeen → ℕ → Key
-page_in frames frame = page_of (slice_index_or frames frame Free)
+abbrev pub key_in : List FrameSeen → ℕ → Key
+key_in frames frame = page_of (slice_index_or frames frame Free)
 
 -- the order is kept by the numbers of the frames
 abbrev pub residents_seen : List FrameSeen → List ℕ → List Key
-residents_seen frames order = map (page_in frames) order
+residents_seen frames order = map (key_in frames) order
 
 -- all frames of the arena are out, and here
 pub record HasAll (arena : ArenaSeen) (frames : List Frame) : Type 0 where

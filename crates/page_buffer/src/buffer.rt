@@ -9,7 +9,7 @@ ghost use Rattle.std.specs.Borrow.{Lends, sem, Array, u8 as byte};
 ghost use Rattle.page_base.specs.declared.keys.Key.{Key};
 ghost use Rattle.page_base.specs.declared.limits.TheConstants.{MOST_BUFFER_BYTES};
 ghost use Rattle.page_buffer.specs.Frames.{Free, Reserved, is_reserved, is_resident, resident_key, page_of, bytes_of};
-ghost use Rattle.page_buffer.specs.Buffers.{all_free, frame_of, has_frame_for, free_frames, reserved_frames, with_frame, filled, released, with_page, evicts, IsFirst, FindsComputed};
+ghost use Rattle.page_buffer.specs.Buffers.{all_free, frame_of, has_frame_for, free_frames, reserved_frames, with_frame, filled, released, with_page, evicts_further, IsFirst, FindsComputed};
 ghost use Rattle.page_buffer.specs.contracts.buffer.PageBuffer.{the_row};
 
 use crate::frame::{Frame, Use};
@@ -239,7 +239,7 @@ impl PageBuffer {
 
     /// Whether the stripe evicts, where it did so `before` or not.
     pub fn evicting(&self, before: bool, marks: Marks) -> bool
-        ensures exact { result ≡ evicts before marks (length self.now.residents) }
+        ensures exact { result ≡ evicts_further before marks (length self.now.residents) }
     {
         let resident = self.resident();
         resident >= marks.on || resident > marks.off && before

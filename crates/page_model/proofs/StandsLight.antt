@@ -26,7 +26,7 @@ use Rattle.page_model.specs.Legal.{MayRaiseFor}
 use Rattle.page_model.specs.Memory.{LoadsLatest, flat}
 use Rattle.page_model.specs.Residents.{is_resident, residents}
 use Rattle.page_model.specs.Serving.{hint_answer, is_servable, is_stale, next_of, waits_for_room}
-use Rattle.page_model.specs.Setups.{Setup, count_by, first_count, has_page, is_told, pages_of, regions, told_by}
+use Rattle.page_model.specs.Setups.{Setup, count_by, first_count, has_page, is_told, pages_of, regions, told_in}
 use Rattle.page_model.specs.Stands.{PageStands, RegionStands, StandsFor}
 use Rattle.page_model.specs.Steps.{fresh_region, fresh_regions, hinted}
 use Rattle.page_model.specs.Tallies.{counts_of}
@@ -70,8 +70,8 @@ fresh_stands_at s r shape lane shape_is lane_is = record {
     refl,
     record {
       origin = ap (option_map (λ (l : LaneSeen). l.origin)) lane_is;
-      told = λ p page told. ap (λ o. is_some (told_by o p)) (sym lane_is) ∙ told;
-      kept = λ p bytes page told e. ap (λ o. told_by o p) (sym lane_is) ∙ e;
+      told = λ p page told. ap (λ o. is_some (told_in o p)) (sym lane_is) ∙ told;
+      kept = λ p bytes page told e. ap (λ o. told_in o p) (sym lane_is) ∙ e;
       count = let same_count : first_count s r ≡ lane.count = ap count_by lane_is in omega arith;
     },
   );

@@ -24,7 +24,7 @@ use Rattle.page_model.specs.Readers.{IsReadOut, ReadyToRead}
 use Rattle.page_model.specs.Residents.{is_resident}
 use Rattle.page_model.specs.Serving.{is_servable, next_of}
 use Rattle.page_model.specs.Setups.{Setup, has_page, is_page_of, is_told, pages_of}
-use Rattle.page_model.specs.Stands.{HomeLane, PageStands, PlaceStands, StandsFor, page_of}
+use Rattle.page_model.specs.Stands.{HomeLane, PageStands, PlaceStands, StandsFor, page_key}
 use Rattle.page_model.specs.Steps.{filled_page, placed, read_missed}
 use Rattle.page_model.specs.StoreFaults.{last_fault, read_fault}
 use Rattle.page_model.specs.Tallies.{counted}
@@ -157,7 +157,7 @@ same_home : (s : Setup) (h g : History Entry) (r : ℕ) (taken lane : LaneSeen) 
 same_home s h g r taken lane was l keeps count = record {
   origin = was.origin ∙ ap Some (sym l.origin);
   told = λ p page told. ap (λ x. is_some (told_at x p)) l.told ∙ was.told p page told;
-  kept = λ p bytes page told e. ap (λ x. told_at x p) l.told ∙ was.kept p bytes page told (sym (keeps (page_of r p) refl) ∙ e);
+  kept = λ p bytes page told e. ap (λ x. told_at x p) l.told ∙ was.kept p bytes page told (sym (keeps (page_key r p) refl) ∙ e);
   count = count;
 }
 
@@ -280,7 +280,7 @@ read_failed_stands h o c t lane st is_open lane_same rose small =
             );
             closing = was.closing;
             unmapped = was.unmapped;
-            read_faults = λ p. fault_set g.read_faults k.page lane.count p k (λ x. read_fault h (page_of k.region x)) within refl was.read_faults;
+            read_faults = λ p. fault_set g.read_faults k.page lane.count p k (λ x. read_fault h (page_key k.region x)) within refl was.read_faults;
             sized = slice_set_length g.read_faults k.page lane.count ∙ was.sized;
           });
       evicting = st.evicting;

@@ -19,7 +19,7 @@ use Rattle.page_model.specs.Memory.{kept}
 use Rattle.page_model.specs.Readers.{IsWriteOut}
 use Rattle.page_model.specs.Residents.{is_resident}
 use Rattle.page_model.specs.Setups.{Setup, regions}
-use Rattle.page_model.specs.Stands.{HomeLane, PageStands, PlaceStands, StandsFor, page_of}
+use Rattle.page_model.specs.Stands.{HomeLane, PageStands, PlaceStands, StandsFor, page_key}
 use Rattle.page_model.specs.Steps.{on_page, placed}
 use Rattle.page_model.specs.StoreFaults.{last_fault}
 use Rattle.page_model.specs.Tallies.{counted}
@@ -179,11 +179,11 @@ written_home s h o k at bytes before taken lane was l since = record {
     | inl pk ↦
         let t : is_some (told_at taken.told k.page) ≡ true = rw (← pk) (was.told p page told) in
         let w : told_at lane.told p ≡ Some bytes = rw pk (l.page t) in
-        let is : same k (page_of k.region p) ≡ true = and_from (k.page == p) (k.region == k.region) (eq-eqb k.page p (sym pk)) (eq-eqb k.region k.region refl) in
-        w ∙ (sym (cond-true (same k (page_of k.region p)) (Some bytes) (kept s h (page_of k.region p)) is) ∙ e)
+        let is : same k (page_key k.region p) ≡ true = and_from (k.page == p) (k.region == k.region) (eq-eqb k.page p (sym pk)) (eq-eqb k.region k.region refl) in
+        w ∙ (sym (cond-true (same k (page_key k.region p)) (Some bytes) (kept s h (page_key k.region p)) is) ∙ e)
     | inr ne ↦
-        let n : same k (page_of k.region p) ≡ false = and_left (k.page == p) (k.region == k.region) (ne_eqb k.page p (λ x. ne (sym x))) in
-        l.others p ne ∙ was.kept p b page told (sym (since.keeps (page_of k.region p) refl) ∙ (sym (cond-false (same k (page_of k.region p)) (Some bytes) (kept s h (page_of k.region p)) n) ∙ e))
+        let n : same k (page_key k.region p) ≡ false = and_left (k.page == p) (k.region == k.region) (ne_eqb k.page p (λ x. ne (sym x))) in
+        l.others p ne ∙ was.kept p b page told (sym (since.keeps (page_key k.region p) refl) ∙ (sym (cond-false (same k (page_key k.region p)) (Some bytes) (kept s h (page_key k.region p)) n) ∙ e))
   ];
   count = let le = was.count in let up = l.count in omega (arith, since.fault);
 }
@@ -240,12 +240,12 @@ spoilt_home s h o k before taken lane was l le since = record {
   ];
   kept = λ p b page told e. elim (cases_eq p k.page) [
     | inl pk ↦
-        let is : same k (page_of k.region p) ≡ true = and_from (k.page == p) (k.region == k.region) (eq-eqb k.page p (sym pk)) (eq-eqb k.region k.region refl) in
-        let unknown : kept s ((o, WriteFailed k lane.count) ∷ h) (page_of k.region p) ≡ None = cond-true (same k (page_of k.region p)) None (kept s h (page_of k.region p)) is in
+        let is : same k (page_key k.region p) ≡ true = and_from (k.page == p) (k.region == k.region) (eq-eqb k.page p (sym pk)) (eq-eqb k.region k.region refl) in
+        let unknown : kept s ((o, WriteFailed k lane.count) ∷ h) (page_key k.region p) ≡ None = cond-true (same k (page_key k.region p)) None (kept s h (page_key k.region p)) is in
         absurd cc
     | inr ne ↦
-        let n : same k (page_of k.region p) ≡ false = and_left (k.page == p) (k.region == k.region) (ne_eqb k.page p (λ x. ne (sym x))) in
-        l.others p ne ∙ was.kept p b page told (sym (since.keeps (page_of k.region p) refl) ∙ (sym (cond-false (same k (page_of k.region p)) None (kept s h (page_of k.region p)) n) ∙ e))
+        let n : same k (page_key k.region p) ≡ false = and_left (k.page == p) (k.region == k.region) (ne_eqb k.page p (λ x. ne (sym x))) in
+        l.others p ne ∙ was.kept p b page told (sym (since.keeps (page_key k.region p) refl) ∙ (sym (cond-false (same k (page_key k.region p)) None (kept s h (page_key k.region p)) n) ∙ e))
   ];
   count =
       let newest : last_fault s ((o, WriteFailed k lane.count) ∷ h) k.region ≡ max lane.count (last_fault s h k.region) = cond-true (k.region == k.region) (max lane.count (last_fault s h k.region)) (last_fault s h k.region) (eq-eqb k.region k.region refl) in

@@ -15,7 +15,7 @@ use Rattle.page_model.specs.Faults.{last_why}
 use Rattle.page_model.specs.InFlight.{InFlight, in_flight, is_read_of}
 use Rattle.page_model.specs.Memory.{kept}
 use Rattle.page_model.specs.Setups.{Setup}
-use Rattle.page_model.specs.Stands.{HomeLane, IsOut, PlaceStands, RegionStands, page_of}
+use Rattle.page_model.specs.Stands.{HomeLane, IsOut, PlaceStands, RegionStands, page_key}
 use Rattle.page_model.specs.StoreFaults.{last_fault, read_fault}
 use Rattle.page_model.proofs.Flight.{when_end, when_start}
 use Rattle.page_model.proofs.Keys.{elsewhere, same_self}
@@ -46,13 +46,13 @@ pub record SameRegion (s : Setup) (h g : History Entry) (r : ℕ) : Type 0 where
   pub fault : last_fault s g r ≡ last_fault s h r
   pub closing : is_closing g r ≡ is_closing h r
   pub unmapped : is_unmapped g r ≡ is_unmapped h r
-  pub read_faults : (p : ℕ) → read_fault g (page_of r p) ≡ read_fault h (page_of r p)
+  pub read_faults : (p : ℕ) → read_fault g (page_key r p) ≡ read_fault h (page_key r p)
 
 pub home_same : (s : Setup) (h g : History Entry) (r : ℕ) (lane : LaneSeen) → ((k : Key) → k.region ≡ r → kept s g k ≡ kept s h k) → last_fault s g r ≡ last_fault s h r → HomeLane s h r lane → HomeLane s g r lane
 home_same s h g r lane keeps fault st = record {
   origin = st.origin;
   told = st.told;
-  kept = λ p bytes page told e. st.kept p bytes page told (sym (keeps (page_of r p) refl) ∙ e);
+  kept = λ p bytes page told e. st.kept p bytes page told (sym (keeps (page_key r p) refl) ∙ e);
   count = rw fault (st.count);
 }
 
@@ -131,7 +131,7 @@ untouched s h o (ReadFailed k m) r n = record {
   fault = cond-false (k.region == r) (max m (last_fault s h r)) (last_fault s h r) n;
   closing = refl;
   unmapped = refl;
-  read_faults = λ p. cond-false (same k (page_of r p)) m (read_fault h (page_of r p)) (elsewhere k (page_of r p) r n refl);
+  read_faults = λ p. cond-false (same k (page_key r p)) m (read_fault h (page_key r p)) (elsewhere k (page_key r p) r n refl);
 }
 untouched s h o (WriteFailed k m) r n = record {
   flight = cond-false (k.region == r) None (in_flight h r) n;

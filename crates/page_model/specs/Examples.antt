@@ -59,28 +59,28 @@ abbrev pub read_ahead : List Entry
 read_ahead = Hint (page 0) answer.Raised ∷ StartRead (page 0) ∷ Filled (page 0) ∷ []
 
 -- a page's read fails, as the lane's fault number n
-abbrev pub read_fails : ℕ → List Entry
-read_fails n = Raised (page 0) Read ∷ StartRead (page 0) ∷ ReadFailed (page 0) n ∷ []
+abbrev pub a_failed_read : ℕ → List Entry
+a_failed_read n = Raised (page 0) Read ∷ StartRead (page 0) ∷ ReadFailed (page 0) n ∷ []
 
--- a page is read in for a store, and stored to
-abbrev pub stored : ℕ → List Entry
-stored byte = Raised (page 0) Write ∷ StartRead (page 0) ∷ Filled (page 0) ∷ Save (page 0) 0 (byte ∷ []) ∷ []
+-- a page is read in for a store, and a_store to
+abbrev pub a_store : ℕ → List Entry
+a_store byte = Raised (page 0) Write ∷ StartRead (page 0) ∷ Filled (page 0) ∷ Save (page 0) 0 (byte ∷ []) ∷ []
 
 -- ---- legal ones
 
 -- two pages take turns in one frame: the dirty one is written back before it leaves; the region is unmapped at the end
 abbrev pub two_pages_in_one_frame : List Entry
 two_pages_in_one_frame =
-    stored 170
+    a_store 170
     ++ (Raised (page 1) Read ∷ StartWrite (page 0) Pressure ∷ Written (page 0) 5 (begins 170) ∷ Evicted (page 0) Pressure
     ∷ StartRead (page 1) ∷ Filled (page 1) ∷ Load (page 1) 0 (0 ∷ [])
     ∷ Raised (page 0) Read ∷ Evicted (page 1) Pressure ∷ StartRead (page 0) ∷ Filled (page 0) ∷ Load (page 0) 0 (170 ∷ [])
     ∷ Closing 0 ∷ Evicted (page 0) Unmap ∷ Unmapped 0 ∷ [])
 
--- while a page is written back it is stored to again, and so reopened
+-- while a page is written back it is a_store to again, and so reopened
 abbrev pub reopened : List Entry
 reopened =
-    stored 1
+    a_store 1
     ++ (StartWrite (page 0) Flush ∷ Raised (page 0) Protected ∷ Opened (page 0) ∷ Save (page 0) 0 (2 ∷ []) ∷ [])
 
 -- the write that had started leaves it dirty, and the next one clean
@@ -100,26 +100,26 @@ three_hints = Hint (page 0) answer.Raised ∷ Hint (page 1) answer.Raised ∷ Hi
 
 -- faults of the store are numbered upwards
 abbrev pub reads_fail_twice : List Entry
-reads_fail_twice = read_fails 1 ++ read_fails 2
+reads_fail_twice = a_failed_read 1 ++ a_failed_read 2
 
 -- the history after the first of these reads, and after both
 abbrev pub after_one_read : History Entry
-after_one_read = history_of (read_fails 1)
+after_one_read = history_of (a_failed_read 1)
 
 abbrev pub after_two_reads : History Entry
 after_two_reads = history_of reads_fail_twice
 
 -- till the greatest number, which may come again
 abbrev pub reads_fail_at_the_greatest_number : List Entry
-reads_fail_at_the_greatest_number = read_fails 18446744073709551615 ++ read_fails 18446744073709551615
+reads_fail_at_the_greatest_number = a_failed_read 18446744073709551615 ++ a_failed_read 18446744073709551615
 
 -- a write back fails, and leaves its page dirty
-abbrev pub write_fails : List Entry
-write_fails = stored 1 ++ (StartWrite (page 0) Flush ∷ WriteFailed (page 0) 1 ∷ [])
+abbrev pub a_failed_write : List Entry
+a_failed_write = a_store 1 ++ (StartWrite (page 0) Flush ∷ WriteFailed (page 0) 1 ∷ [])
 
 -- so it may be tried again
 abbrev pub write_fails_twice : List Entry
-write_fails_twice = write_fails ++ (StartWrite (page 0) Flush ∷ WriteFailed (page 0) 2 ∷ [])
+write_fails_twice = a_failed_write ++ (StartWrite (page 0) Flush ∷ WriteFailed (page 0) 2 ∷ [])
 
 -- what was read ahead is protected, and is opened for a store to its last byte
 abbrev pub read_ahead_and_opened : List Entry
@@ -135,7 +135,7 @@ evicted_down_to_the_low_mark = loaded_in 0 ++ (loaded_in 1 ++ (loaded_in 2 ++ (E
 
 -- a dirty page is the oldest, and a clean one the newest
 abbrev pub dirty_then_clean : List Entry
-dirty_then_clean = stored 1 ++ loaded_in 1
+dirty_then_clean = a_store 1 ++ loaded_in 1
 
 -- the clean page is the pick while the dirty one is being written
 abbrev pub evicted_beside_a_write : List Entry
@@ -144,7 +144,7 @@ evicted_beside_a_write = dirty_then_clean ++ (StartWrite (page 0) Flush ∷ Evic
 -- a page leaves before the fault that would have opened it is served: the fault is stale
 abbrev pub left_behind : List Entry
 left_behind =
-    stored 1
+    a_store 1
     ++ (StartWrite (page 0) Flush ∷ Raised (page 0) Protected ∷ Written (page 0) 4 (begins 1) ∷ Evicted (page 0) Pressure ∷ [])
 
 -- it is dropped, and raised again as what it is now
@@ -242,13 +242,13 @@ abbrev pub clean_page_written_back : List Entry
 clean_page_written_back = loaded_in 0 ++ StartWrite (page 0) Flush ∷ []
 
 abbrev pub fault_number_repeated : List Entry
-fault_number_repeated = read_fails 1 ++ read_fails 1
+fault_number_repeated = a_failed_read 1 ++ a_failed_read 1
 
 abbrev pub fault_number_of_the_start : List Entry
-fault_number_of_the_start = read_fails 0
+fault_number_of_the_start = a_failed_read 0
 
 abbrev pub write_fault_number_repeated : List Entry
-write_fault_number_repeated = write_fails ++ (StartWrite (page 0) Flush ∷ WriteFailed (page 0) 1 ∷ [])
+write_fault_number_repeated = a_failed_write ++ (StartWrite (page 0) Flush ∷ WriteFailed (page 0) 1 ∷ [])
 
 -- ---- wrong ones: evictions
 
@@ -271,7 +271,7 @@ abbrev pub evicted_while_written : List Entry
 evicted_while_written = dirty_then_clean ++ (StartWrite (page 0) Flush ∷ Evicted (page 0) Pressure ∷ [])
 
 abbrev pub evicted_after_a_failed_write : List Entry
-evicted_after_a_failed_write = write_fails ++ Evicted (page 0) Pressure ∷ []
+evicted_after_a_failed_write = a_failed_write ++ Evicted (page 0) Pressure ∷ []
 
 abbrev pub clean_after_reopening : List Entry
 clean_after_reopening = reopened ++ (Written (page 0) 4 (begins 1) ∷ Evicted (page 0) Pressure ∷ [])

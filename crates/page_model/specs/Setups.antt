@@ -44,13 +44,13 @@ may_write (Some shape) = shape.writable
 abbrev pub is_writable : Setup → ℕ → Bool
 is_writable s r = may_write (slice_get s.shapes r)
 
-abbrev pub told_by : Option LaneSeen → ℕ → Option (List ℕ)
-told_by None page = None
-told_by (Some lane) page = told_at lane.told page
+abbrev pub told_in : Option LaneSeen → ℕ → Option (List ℕ)
+told_in None page = None
+told_in (Some lane) page = told_at lane.told page
 
 -- the bytes of a page when the stripe was made, where its lane tells them
 abbrev pub base_of : Setup → Key → Option (List ℕ)
-base_of s k = told_by (slice_get s.lanes k.region) k.page
+base_of s k = told_in (slice_get s.lanes k.region) k.page
 
 -- the page's lane tells its contents
 abbrev pub is_told : Setup → Key → Bool

@@ -19,8 +19,8 @@ use Rattle.page_model.specs.Tallies.{counts_of}
 use Rattle.page_model.specs.Legal.{IsLegal}
 use Rattle.page_model.specs.Core.{Resident, LanePlace, Home, Reading, Writing, RegionSeen, Core}
 
-abbrev pub page_of : (region page : ℕ) → Key
-page_of region page = record { region = region; page = page }
+abbrev pub page_key : (region page : ℕ) → Key
+page_key region page = record { region = region; page = page }
 
 -- a resident page has the bits that the history says, and its bytes where told
 abbrev pub PageStands : Setup → History Entry → Resident → Type 0
@@ -33,10 +33,10 @@ PageStands s h r =
 -- still told, and as kept where that is known; and as many faults at least as any entry of the region says
 pub record HomeLane (s : Setup) (h : History Entry) (r : ℕ) (lane : LaneSeen) : Type 0 where
   pub origin : origin_of s r ≡ Some lane.origin
-  pub told : (p : ℕ) → has_page s (page_of r p) ≡ true → is_told s (page_of r p) ≡ true
+  pub told : (p : ℕ) → has_page s (page_key r p) ≡ true → is_told s (page_key r p) ≡ true
       → is_some (told_at lane.told p) ≡ true
-  pub kept : (p : ℕ) (bytes : List ℕ) → has_page s (page_of r p) ≡ true → is_told s (page_of r p) ≡ true
-      → kept s h (page_of r p) ≡ Some bytes → told_at lane.told p ≡ Some bytes
+  pub kept : (p : ℕ) (bytes : List ℕ) → has_page s (page_key r p) ≡ true → is_told s (page_key r p) ≡ true
+      → kept s h (page_key r p) ≡ Some bytes → told_at lane.told p ≡ Some bytes
   pub count : last_fault s h r ≤ lane.count
 
 -- region r has I/O in flight, of page k, started at place `at`
@@ -55,7 +55,7 @@ pub record RegionStands (s : Setup) (h : History Entry) (r : ℕ) (g : RegionSee
   pub place : PlaceStands s h r g.place
   pub closing : g.closing ≡ is_closing h r
   pub unmapped : g.unmapped ≡ is_unmapped h r
-  pub read_faults : (p : ℕ) → slice_index g.read_faults p ≡ read_fault h (page_of r p)
+  pub read_faults : (p : ℕ) → slice_index g.read_faults p ≡ read_fault h (page_key r p)
   pub sized : length g.read_faults ≡ pages_of (slice_get s.shapes r)
 
 -- The core is what the history says.

@@ -8,7 +8,7 @@ ghost use Rattle.page_model.specs.Closings.{is_unmapped};
 ghost use Rattle.page_model.specs.Entries.{accesses_of};
 ghost use Rattle.page_model.specs.Faults.{pending};
 ghost use Rattle.page_model.specs.Laws.{HasMoreToClear, IsCounted, IsEmptied, raises_for_store};
-ghost use Rattle.page_model.specs.Examples.{stripe_with, history_of, page, read_fails, reads_fail_twice, write_fails_twice, two_pages_in_one_frame, three_hints, closing_with_a_fault, after_one_read, after_two_reads};
+ghost use Rattle.page_model.specs.Examples.{stripe_with, history_of, page, a_failed_read, reads_fail_twice, write_fails_twice, two_pages_in_one_frame, three_hints, closing_with_a_fault, after_one_read, after_two_reads};
 
 use crate::entry::Entry;
 use crate::examples::{hints_are_answered, the_store_fails, two_pages_take_turns};
@@ -35,7 +35,7 @@ pub fn a_pending_fault_is_to_be_dropped()
 
 /// The second failed read is new to who had seen the first.
 pub fn the_second_failed_read_is_new()
-    ensures { HasNew (λ x. x.1 ≡ ReadFailed (page 0) 2) (history_of (read_fails 1)) (history_of reads_fail_twice) }
+    ensures { HasNew (λ x. x.1 ≡ ReadFailed (page 0) 2) (history_of (a_failed_read 1)) (history_of reads_fail_twice) }
 {
     read_fault_is_new();
 }
@@ -67,7 +67,7 @@ pub fn the_hints_fit_the_queue()
 /// A caller that had seen the first failed read made three entries more, of which the newest is the second failure; and that
 /// is new to whoever had seen less.
 pub fn a_caller_reads_again()
-    ensures grew { Grew 1 after_one_read after_two_reads (reverse (read_fails 2)) }
+    ensures grew { Grew 1 after_one_read after_two_reads (reverse (a_failed_read 2)) }
     ensures newest { IsNew (1, ReadFailed (page 0) 2) after_one_read after_two_reads }
     ensures newer { IsNew (1, ReadFailed (page 0) 2) [] after_two_reads }
 {
@@ -78,7 +78,7 @@ pub fn a_caller_reads_again()
 
 /// What a caller made in between is told by the two histories; and where it was alone, that is all that came.
 pub fn two_histories_tell_what_came()
-    ensures own { (es : List Seen) → Grew 1 after_one_read after_two_reads es → es ≡ reverse (read_fails 2) }
+    ensures own { (es : List Seen) → Grew 1 after_one_read after_two_reads es → es ≡ reverse (a_failed_read 2) }
     ensures all { (h : History Seen) (es : List Seen) → Grew 1 [] h es → Alone 1 [] h → h ≡ by 1 es }
 {
     one_later::<Entry>();

@@ -9,13 +9,13 @@ use Rattle.std.proofs.Math.Nat.{div-lt_iff_lt-mul}
 use Rattle.std.specs.List.{range_with_len}
 use Rattle.std.specs.List.Sorted.{IsStrictlyIncreasing}
 use Rattle.region_table.proofs.Cutting.{piece, first_piece, nonempty}
-use Rattle.region_table.specs.Covers.{AreJoined, CoversRange}
+use Rattle.region_table.specs.Covers.{AreConsecutive, CoversRange}
 use Rattle.region_table.specs.Pieces.{piece_in, pieces_of}
 use Rattle.page_base.specs.declared.keys.Piece.{Piece}
 
 -- what goes from the pieces behind the first to all of them
 record Covered (P r off len : ℕ) (ps : List Piece) : Type 0 where
-  joined : AreJoined P r off ps
+  joined : AreConsecutive P r off ps
   lengths : sum_by (λ (p : Piece). p.len) ps ≡ len
   inside : (pages : ℕ) → off + len ≤ pages * P → All (λ (p : Piece). p.key.page < pages) ps
 

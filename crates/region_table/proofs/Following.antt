@@ -5,13 +5,13 @@ use Rattle.std.specs.List.Sorted.{IsStrictlyIncreasing}
 use Rattle.std.proofs.lemmas.List.Sums.{sum_by-append, sum_by-cons}
 use Rattle.std.proofs.lemmas.Nat.{mul-le}
 use Rattle.page_base.specs.declared.keys.Piece.{Piece}
-use Rattle.region_table.specs.Covers.{AreJoined, CoversRange, IsNext, IsPieceAt, PiecesCover, PiecesFollow}
+use Rattle.region_table.specs.Covers.{AreConsecutive, CoversRange, IsNext, IsPieceAt, PiecesCover, PiecesFollow}
 use Rattle.region_table.specs.Pieces.{pieces_of}
 
 abbrev lengths : List Piece → ℕ
 lengths ps = sum_by (λ (p : Piece). p.len) ps
 
-joined_at : (size region off : ℕ) (front : List Piece) (p : Piece) (rest : List Piece) → AreJoined size region off (front ++ p ∷ rest) → IsPieceAt size region (off + lengths front) p
+joined_at : (size region off : ℕ) (front : List Piece) (p : Piece) (rest : List Piece) → AreConsecutive size region off (front ++ p ∷ rest) → IsPieceAt size region (off + lengths front) p
 joined_at size region off [] p rest h = subst (λ n. IsPieceAt size region n p) (omega arith) h.0
 joined_at size region off (q ∷ qs) p rest h = subst (λ n. IsPieceAt size region n p) (omega (arith, sum_by-cons (λ (r : Piece). r.len) q qs)) (joined_at size region (off + q.len) qs p rest h.1)
 
@@ -29,7 +29,7 @@ row_begins i j size p n q lt within e =
     let far = rows_apart i j size lt in
     omega (arith, far, within, e)
 
-at_border : (size region off : ℕ) (front : List Piece) (p : Piece) (rest : List Piece) → AreJoined size region off (front ++ p ∷ rest) → IsStrictlyIncreasing (map (λ (q : Piece). q.key.page) (front ++ p ∷ rest)) → (front ≡ []) ⊎ (p.place ≡ 0)
+at_border : (size region off : ℕ) (front : List Piece) (p : Piece) (rest : List Piece) → AreConsecutive size region off (front ++ p ∷ rest) → IsStrictlyIncreasing (map (λ (q : Piece). q.key.page) (front ++ p ∷ rest)) → (front ≡ []) ⊎ (p.place ≡ 0)
 at_border size region off [] p rest joined rises = inl refl
 at_border size region off (q ∷ []) p rest joined rises =
     let first = joined.0 in
@@ -42,7 +42,7 @@ at_border size region off (q ∷ (q2 ∷ qs)) p rest joined rises = elim (at_bor
 
 next_piece : (size region off len done : ℕ) (front rest : List Piece) (p : Piece) → CoversRange size region off len (pieces_of size region off len) → pieces_of size region off len ≡ front ++ p ∷ rest → lengths front ≡ done → IsNext size region off len done p
 next_piece size region off len done front rest p covers is sum =
-    let joined : AreJoined size region off (front ++ p ∷ rest) = subst (AreJoined size region off) is covers.joined in
+    let joined : AreConsecutive size region off (front ++ p ∷ rest) = subst (AreConsecutive size region off) is covers.joined in
     let total : lengths (front ++ p ∷ rest) ≡ len = ap lengths (sym is) ∙ covers.lengths in
     record {
       at = subst (λ (n : ℕ). IsPieceAt size region (off + n) p) sum (joined_at size region off front p rest joined);

@@ -12,12 +12,12 @@ pub record IsPieceAt (page_size region off : ℕ) (p : Piece) : Type 0 where
   pub within : p.place + p.len ≤ page_size
 
 -- the first piece begins at `off`, and each of the others where the one before it ends
-abbrev pub AreJoined : (page_size region off : ℕ) → List Piece → Type 0
-AreJoined page_size region off [] = Unit {0}
-AreJoined page_size region off (p ∷ ps) = IsPieceAt page_size region off p × AreJoined page_size region (off + p.len) ps
+abbrev pub AreConsecutive : (page_size region off : ℕ) → List Piece → Type 0
+AreConsecutive page_size region off [] = Unit {0}
+AreConsecutive page_size region off (p ∷ ps) = IsPieceAt page_size region off p × AreConsecutive page_size region (off + p.len) ps
 
 pub record CoversRange (page_size region off len : ℕ) (ps : List Piece) : Type 0 where
-  pub joined : AreJoined page_size region off ps
+  pub joined : AreConsecutive page_size region off ps
   pub lengths : sum_by (λ (p : Piece). p.len) ps ≡ len
   pub rising : IsStrictlyIncreasing (map (λ (p : Piece). p.key.page) ps)
   pub inside : (pages : ℕ) → off + len ≤ pages * page_size → All (λ (p : Piece). p.key.page < pages) ps

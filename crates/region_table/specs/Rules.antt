@@ -7,7 +7,7 @@ use Rattle.region_table.specs.declared.region.TheConstants.{MOST_FILES}
 use Rattle.region_table.specs.declared.spec.RegionFault.{RegionFault}
 use Rattle.region_table.specs.declared.spec.RegionFault.TheVariants.{SameName, SameStore, BadLength, TooManyPages, OutOfMemory}
 use Rattle.page_base.specs.Backings.{Backing, in_memory, in_file, in_files}
-use Rattle.region_table.specs.Regions.{RegionSeen, TableSeen, page_count}
+use Rattle.region_table.specs.Regions.{NamedRegion, TableSeen, page_count}
 
 abbrev pub path_of : Backing → Option (List ℕ)
 path_of in_memory = None
@@ -36,22 +36,22 @@ abbrev pub has_whole_files : (page_size size : ℕ) → Backing → Bool
 has_whole_files page_size size (in_files path file) = is_whole page_size file && (size % file == 0 && nat_le (size / file) MOST_FILES)
 has_whole_files page_size size backing = true
 
-unfoldable pub has_good_length : ℕ → RegionSeen → Bool
+unfoldable pub has_good_length : ℕ → NamedRegion → Bool
 has_good_length page_size r = is_whole page_size r.size && has_whole_files page_size r.size r.backing
 
 -- the first rule that a region breaks behind those that are there, if it breaks one
-abbrev pub region_fault : TableSeen → RegionSeen → Option RegionFault
+abbrev pub region_fault : TableSeen → NamedRegion → Option RegionFault
 region_fault t r =
-    if list_any (λ (s : RegionSeen). bytes_eq s.name r.name) t.regions then Some SameName else
-    (if list_any (λ (s : RegionSeen). shares_store s.backing r.backing) t.regions then Some SameStore else
+    if list_any (λ (s : NamedRegion). bytes_eq s.name r.name) t.regions then Some SameName else
+    (if list_any (λ (s : NamedRegion). shares_store s.backing r.backing) t.regions then Some SameStore else
     (if not (has_good_length t.page_size r) then Some BadLength else
     (if nat_lt MOST_PAGES (page_count t + r.size / t.page_size) then Some (TooManyPages (page_count t + r.size / t.page_size)) else None)))
 
 -- why a region wasn't added: the first rule that it breaks, and want of memory where it breaks none
-abbrev pub refusal_to_add : TableSeen → RegionSeen → RegionFault
+abbrev pub refusal_to_add : TableSeen → NamedRegion → RegionFault
 refusal_to_add t r = unwrap_or (region_fault t r) OutOfMemory
 
 -- none of these regions breaks a rule behind those before it
-abbrev pub keeps_rules : (page_size : ℕ) (before regions : List RegionSeen) → Bool
+abbrev pub keeps_rules : (page_size : ℕ) (before regions : List NamedRegion) → Bool
 keeps_rules page_size before [] = true
 keeps_rules page_size before (r ∷ rs) = is_none (region_fault (record { page_size = page_size; regions = before }) r) && keeps_rules page_size (before ++ r ∷ []) rs

@@ -4,7 +4,7 @@ ghost use Rattle.std.specs.List.{list_any, position, starts_with};
 ghost use Rattle.std.specs.Option.{option_copied};
 ghost use Rattle.std.specs.Str.{bytes_eq};
 ghost use Rattle.page_base.specs.declared.limits.TheConstants.{MOST_PAGES};
-ghost use Rattle.region_table.specs.Regions.{seen_of, backing_of, group_of, shape_of};
+ghost use Rattle.region_table.specs.Regions.{named_by, backing_of, group_of, shape_of};
 ghost use Rattle.region_table.specs.Rules.{path_of, leads_into, shares_store, is_whole, has_good_length};
 
 use crate::spec::{Kind, RegionSpec};
@@ -23,17 +23,17 @@ pub(crate) struct Region {
 
 impl Model for Region {
     ghost use Rattle.page_base.specs.declared.limits.TheConstants.{MOST_PAGES};
-    ghost use Rattle.region_table.specs.Regions.{RegionSeen, seen_of};
+    ghost use Rattle.region_table.specs.Regions.{NamedRegion, named_by};
 
-    ghost Value = { RegionSeen };
+    ghost Value = { NamedRegion };
 
-    ghost view = { λ r. seen_of r.spec };
+    ghost view = { λ r. named_by r.spec };
 }
 
 impl Region {
     /// The region that is asked for, with bytes of its own.
     pub(crate) fn from_spec(alloc: Global, spec: &RegionSpec) -> Result<Region, OutOfMemory>
-        ensures { IfOk result (λ r. r ≡ seen_of spec.now) }
+        ensures { IfOk result (λ r. r ≡ named_by spec.now) }
     {
         Ok(Region {
             spec: RegionSpec {
@@ -171,7 +171,7 @@ fn is_below(folder: &[u8], path: &[u8]) -> bool
 #[tactic(auto, unfolding(crate::specs::Rules::has_good_length))]
 pub(crate) fn has_good_length(page_size: u32, spec: &RegionSpec) -> bool
     requires { 1 ≤ page_size }
-    ensures { result ≡ has_good_length page_size (seen_of spec.now) }
+    ensures { result ≡ has_good_length page_size (named_by spec.now) }
 {
     let page_size = u64::from(page_size);
     is_whole(page_size, spec.length)

@@ -6,7 +6,7 @@ ghost use Rattle.std.specs.Prelude.{◌≡◌, ◌<◌, ◌≤◌, ◌+◌, ◌/
 ghost use Rattle.page_base.specs.Layouts.{is_page_size};
 ghost use Rattle.region_table.specs.Cuts.{rest_of};
 ghost use Rattle.region_table.specs.Pieces.{pieces_of};
-ghost use Rattle.region_table.specs.Regions.{seen_of, with_region, shapes_of, lengths_of, page_count, number_of};
+ghost use Rattle.region_table.specs.Regions.{named_by, with_region, shapes_of, lengths_of, page_count, region_number};
 ghost use Rattle.region_table.specs.Rules.{region_fault, refusal_to_add, keeps_rules};
 ghost use Rattle.region_table.specs.InsideRules.{CountsWith};
 
@@ -56,10 +56,10 @@ impl RegionTable {
     pub fn add(&mut self, spec: &RegionSpec) -> Result<u16, RegionFault>
         requires { length self.old.regions < MOST_REGIONS }
         ensures number { IfOk result (λ n. n ≡ length self.old.regions) }
-        ensures added { OnOk result (self.new ≡ with_region self.old (seen_of spec.now)) }
-        ensures accepted { OnOk result (region_fault self.old (seen_of spec.now) ≡ None) }
+        ensures added { OnOk result (self.new ≡ with_region self.old (named_by spec.now)) }
+        ensures accepted { OnOk result (region_fault self.old (named_by spec.now) ≡ None) }
         // want of memory comes last: where no rule is broken
-        ensures refused { IfErr result (λ f. f ≡ refusal_to_add self.old (seen_of spec.now)) }
+        ensures refused { IfErr result (λ f. f ≡ refusal_to_add self.old (named_by spec.now)) }
         ensures unchanged { OnErr result (self.new ≡ self.old) }
     {
         let pages = self.pages_with(spec)?;
@@ -72,7 +72,7 @@ impl RegionTable {
 
     /// The pages of all regions and one more, or the first rule that the one more breaks.
     fn pages_with(&self, spec: &RegionSpec) -> Result<u64, RegionFault>
-        ensures { CountsWith self.now (seen_of spec.now) result }
+        ensures { CountsWith self.now (named_by spec.now) result }
     {
         let regions = self.regions.as_slice();
         if has_name(regions, spec.name.as_slice()) {
@@ -93,7 +93,7 @@ impl RegionTable {
 
     /// The number of the region of this name.
     pub fn find(&self, name: &[u8]) -> Option<u16>
-        ensures { result ≡ number_of self.now name.now }
+        ensures { result ≡ region_number self.now name.now }
     {
         match place_of_name(self.regions.as_slice(), name) {
             Some(number) => Some(number as u16),

@@ -4,7 +4,7 @@ use Rattle.std.specs.List.{enumerate_from}
 use Rattle.std.proofs.lemmas.Bool.{cases_lt}
 use Rattle.std.proofs.lemmas.List.{get_or-map, length-map}
 use Rattle.std.proofs.lemmas.List.FromFn.{length-enumerate_from, get_or-enumerate_from}
-use Rattle.store_trait.specs.Memory.{page_of}
+use Rattle.store_trait.specs.Memory.{page_bytes}
 use Rattle.script_run.specs.Contents.{joined, contents_by}
 use Rattle.script_run.proofs.Lists.{rows_apart, page_of-append, page_of-appended}
 
@@ -19,7 +19,7 @@ pub length-joined : (size n : ℕ) (page : ℕ → List ℕ) → AreWhole size n
 length-joined size zero page whole = omega arith
 length-joined size (suc n) page whole = length-append (joined n page) (page n) ∙ omega (arith, length-joined size n page (fewer size n page whole), whole.each n (omega arith))
 
-pub page_of-joined : (size n : ℕ) (page : ℕ → List ℕ) (p : ℕ) → AreWhole size n page → p < n → page_of size (joined n page) p ≡ page p
+pub page_of-joined : (size n : ℕ) (page : ℕ → List ℕ) (p : ℕ) → AreWhole size n page → p < n → page_bytes size (joined n page) p ≡ page p
 page_of-joined size zero page p whole below = absurd (omega arith)
 page_of-joined size (suc n) page p whole below =
     let len : length (joined n page) ≡ n * size = length-joined size n page (fewer size n page whole) in

@@ -13,18 +13,18 @@ use Rattle.page_model.specs.Core.{Core, RegionSeen, LanePlace}
 use Rattle.page_model.specs.Readers.{IsHere}
 use Rattle.page_model.specs.Setups.{Setup}
 use Rattle.page_model.specs.Setups as setups
-use Rattle.store_trait.specs.Memory.{page_of}
+use Rattle.store_trait.specs.Memory.{page_bytes}
 use Rattle.serial_pager.specs.Seen.{StripeSeen}
 use Rattle.serial_pager.specs.Holdings.{told_by_place, told_by_region}
 use Rattle.serial_pager.specs.Pagers as pagers
-use Rattle.serial_pager.specs.Pagers.{PagerSeen, AreLanesOf, AreRowsOf, core_in, core_at, stripe_at, held, kept, kept_in, count_at, count_in, IsKept}
+use Rattle.serial_pager.specs.Pagers.{PagerSeen, AreLanesOfCore, AreRowsOf, core_in, core_at, stripe_at, held, kept, kept_in, count_at, count_in, IsKept}
 use Rattle.workload_text.specs.Grammar.{Region}
 use Rattle.script_run.specs.Serial.{bytes_at}
 use Rattle.script_run.specs.Contents.{joined, pages_in, page_told, origins_of, contents_of}
-use Rattle.script_run.specs.Fits.{FitLanes, pages_of}
+use Rattle.script_run.specs.Fits.{FitLanes, page_counts}
 use Rattle.script_run.specs.FitsJournals.{setup_at}
 use Rattle.script_run.specs.FitsSerial.{spread_of, lane_at}
-use Rattle.script_run.specs.InsideRanges.{pages_at, key_of, HoldsRegion}
+use Rattle.script_run.specs.InsideRanges.{pages_at, range_key, HoldsRegion}
 use Rattle.script_run.specs.InsideRunning.{IsShaped, shape_of}
 use Rattle.script_run.specs.declared.settings.Settings.{Settings}
 use Rattle.script_run.proofs.Contents.{joined-same, get_or-contents_by}
@@ -55,7 +55,7 @@ module _ {J : Type 0} (c : Settings) (gs : List Region) (rows ends : List (List 
     pub is : slice_get ends s ≡ Some end
     pub at : slice_get z.stripes s ≡ Some stripe
     pub setup : stripe.core.setup ≡ setup_at c z.shapes rows s
-    pub lanes : AreLanesOf stripe.core end
+    pub lanes : AreLanesOfCore stripe.core end
     pub kept : stripe.core.setup.lanes ≡ row
     pub row_long : length row ≡ length gs
     pub end_long : length end ≡ length gs
@@ -69,7 +69,7 @@ module _ {J : Type 0} (c : Settings) (gs : List Region) (rows ends : List (List 
       let at : core_at z s ≡ Some core = ap core_in x.1 in
       let setup : core.setup ≡ setup_at c z.shapes rows s =
       let two : Some core.setup ≡ Some (setup_at c z.shapes rows s) = sym (ap (option_map (λ (y : Core). y.setup)) at) ∙ made s (omega (arith, below, fit.stripes)) in cc in
-      let lanes : AreLanesOf core end.0 = are.each s end.0 core end.1 at in
+      let lanes : AreLanesOfCore core end.0 = are.each s end.0 core end.1 at in
       let shapes : length core.setup.shapes ≡ length gs = ap (λ (u : Setup). length u.shapes) setup ∙ ap length shaped.shapes ∙ length-map gs (shape_of c.layout.page_size) in
       record {
         row = row.0;
@@ -110,7 +110,7 @@ module _ {J : Type 0} (c : Settings) (gs : List Region) (rows ends : List (List 
       ∙ ap (option_map (λ (row : List LaneSeen). map (λ (l : LaneSeen). l.origin) row)) e.was
       ∙ ap (λ (x : List Origin). Some x) (sym (row_origins s e) ∙ is))
 
-  pages_kept : pages_in ends ≡ pages_of c.layout.page_size gs
+  pages_kept : pages_in ends ≡ page_counts c.layout.page_size gs
   pages_kept = ap (λ (os : List (List Origin)). map (λ (o : Origin). o.pages) (get_or os 0 [])) origins_kept ∙ pages_fit c.layout gs rows fit
 
   -- ---- counts and pages of a lane
@@ -123,38 +123,38 @@ module _ {J : Type 0} (c : Settings) (gs : List Region) (rows ends : List (List 
       ∙ sym (count_here e.stripe.core r lane.0 (e.lanes.here r lane.0 lane.1))
       ∙ ap (λ (o : Option Core). count_in o r) (sym (ap core_in e.at))
 
-  told_end : (s r page : ℕ) → s < length rows → r < length gs → told_at (lane_at ends s r).told page ≡ kept_in (core_at z s) (key_of r page)
+  told_end : (s r page : ℕ) → s < length rows → r < length gs → told_at (lane_at ends s r).told page ≡ kept_in (core_at z s) (range_key r page)
   told_end s r page below known =
       let e : EndAt s = end_at s below in
       let lane = there e.end r (omega (arith, known, e.end_long)) in
       let here : IsHere e.stripe.core r lane.0 = e.lanes.here r lane.0 lane.1 in
       ap (λ (l : LaneSeen). told_at l.told page) (lane_there ends s r e.end lane.0 e.is lane.1)
       ∙ sym (ap (λ (o : Option RegionSeen). told_by_region o page) here.is ∙ ap (λ (x : LanePlace). told_by_place x page) here.home)
-      ∙ ap (λ (o : Option Core). kept_in o (key_of r page)) (sym (ap core_in e.at))
+      ∙ ap (λ (o : Option Core). kept_in o (range_key r page)) (sym (ap core_in e.at))
 
-  pages_are : (r : ℕ) → pages_at z r ≡ get_or (pages_of c.layout.page_size gs) r 0
+  pages_are : (r : ℕ) → pages_at z r ≡ get_or (page_counts c.layout.page_size gs) r 0
   pages_are r = ap (λ (ss : List RegionShape). setups.pages_of (slice_get ss r)) shaped.shapes ∙ pages_of_shape c.layout.page_size gs r
 
   -- a region whose lanes tell what it holds
   pub region_end : (r : ℕ) (b : List ℕ) → r < length gs → HoldsRegion z r b → ((s : ℕ) → s < length rows → IsKept z s r) → bytes_at (contents_of ends) r ≡ b
   region_end r b known h all =
-      let n : ℕ = get_or (pages_of c.layout.page_size gs) r 0 in
+      let n : ℕ = get_or (page_counts c.layout.page_size gs) r 0 in
       let long : length b ≡ n * c.layout.page_size = h.whole ∙ ap (λ q. q * z.page_size) (pages_are r) ∙ ap (λ q. n * q) shaped.page_size in
       get_or-contents_by (pages_in ends) (page_told ends) r [] (omega (arith, known, ap length pages_kept, length-map gs (λ (g : Region). g.size / c.layout.page_size)))
       ∙ ap (λ (ps : List ℕ). joined (get_or ps r 0) (page_told ends r)) pages_kept
-      ∙ joined-same n (page_of c.layout.page_size b) (page_told ends r) page
+      ∙ joined-same n (page_bytes c.layout.page_size b) (page_told ends r) page
       ∙ joined-page_of c.layout.page_size n b (omega (arith, long))
       ∙ take_all (n * c.layout.page_size) b (omega (arith, long))
     where
-      page : (p : ℕ) → p < get_or (pages_of c.layout.page_size gs) r 0 → page_told ends r p ≡ page_of c.layout.page_size b p
+      page : (p : ℕ) → p < get_or (page_counts c.layout.page_size gs) r 0 → page_told ends r p ≡ page_bytes c.layout.page_size b p
       page p below =
           let s : ℕ = stripe_of (length rows) 1 r p in
           let s_below : s < length rows = mod_below (r + p / 1) (length rows) (some_row c.layout gs rows fit) in
-          let k : Key = key_of r p in
+          let k : Key = range_key r p in
           let at : stripe_at z k ≡ s = stripe_is (spread_of c.layout) gs z shaped k ∙ ap (λ q. stripe_of q 1 r p) (sym fit.stripes) in
           let lt : p < pages_at z r = omega (arith, below, pages_are r) in
-          let hold : held z k ≡ Some (page_of c.layout.page_size b p) = h.each p lt ∙ ap (λ q. Some (page_of q b p)) shaped.page_size in
-          let keeps : kept z k ≡ Some (page_of c.layout.page_size b p) = subst (λ (o : Option (List ℕ)). IfSome o (λ bytes. kept z k ≡ Some bytes)) hold (all s s_below k refl (page_in_of (slice_get z.shapes r) p lt) at) in
+          let hold : held z k ≡ Some (page_bytes c.layout.page_size b p) = h.each p lt ∙ ap (λ q. Some (page_bytes q b p)) shaped.page_size in
+          let keeps : kept z k ≡ Some (page_bytes c.layout.page_size b p) = subst (λ (o : Option (List ℕ)). IfSome o (λ bytes. kept z k ≡ Some bytes)) hold (all s s_below k refl (page_in_of (slice_get z.shapes r) p lt) at) in
           let mine : kept z k ≡ kept_in (core_at z s) k = ap (λ q. kept_in (core_at z q) k) at in
           ap (λ q. unwrap_or (told_at (lane_at ends q r).told p) []) (ap (λ q. (r + p) % q) ends_len ∙ ap (λ q. (r + q) % length rows) (sym (div-one p)))
           ∙ ap (λ (o : Option (List ℕ)). unwrap_or o []) (told_end s r p s_below known ∙ sym mine ∙ keeps)

@@ -17,7 +17,7 @@ use Rattle.serial_pager.specs.declared.pager.PagerConfig.{PagerConfig}
 use Rattle.serial_pager.specs.Pagers.{config_of, CanOpen, rows_by}
 use Rattle.workload_text.specs.Grammar.{Region}
 use Rattle.script_run.specs.Contents.{no_lane, pages_in}
-use Rattle.script_run.specs.Fits.{FitLanes, AreInRange, row_origins, pages_of}
+use Rattle.script_run.specs.Fits.{FitLanes, AreInRange, row_origins, page_counts}
 use Rattle.script_run.specs.FitsSerial.{lane_at}
 use Rattle.script_run.specs.InsideRunning.{shape_of}
 use Rattle.script_run.specs.declared.settings.Settings.{Settings}
@@ -42,14 +42,14 @@ some_shape {a} {b} e = ap (from a) e
 pub record IsShapeOf (z : ℕ) (gs : List Region) (r : ℕ) (shape : RegionShape) : Type 0 where
   pub known : r < length gs
   pub group : shape.group ≡ 1
-  pub pages : get_or (pages_of z gs) r 0 ≡ shape.pages
+  pub pages : get_or (page_counts z gs) r 0 ≡ shape.pages
 
 pub shape_at : (z : ℕ) (gs : List Region) (r : ℕ) (shape : RegionShape) → slice_get (map (shape_of z) gs) r ≡ Some shape → IsShapeOf z gs r shape
 shape_at z [] r shape e = absurd (cc)
 shape_at z (g ∷ gs) zero shape e = record { known = omega arith; group = ap (λ (s : RegionShape). s.group) (sym (some_shape e)); pages = ap (λ (s : RegionShape). s.pages) (some_shape e) }
 shape_at z (g ∷ gs) (suc r) shape e = let h = shape_at z gs r shape e in record { known = omega (arith, h.known); group = h.group; pages = h.pages }
 
-pub pages_of_shape : (z : ℕ) (gs : List Region) (r : ℕ) → setups.pages_of (slice_get (map (shape_of z) gs) r) ≡ get_or (pages_of z gs) r 0
+pub pages_of_shape : (z : ℕ) (gs : List Region) (r : ℕ) → setups.pages_of (slice_get (map (shape_of z) gs) r) ≡ get_or (page_counts z gs) r 0
 pages_of_shape z [] r = refl
 pages_of_shape z (g ∷ gs) zero = refl
 pages_of_shape z (g ∷ gs) (suc r) = pages_of_shape z gs r
@@ -58,7 +58,7 @@ pages_of_shape z (g ∷ gs) (suc r) = pages_of_shape z gs r
 
 module _ (layout : Layout) (gs : List Region) (rows : List (List LaneSeen)) (fit : FitLanes layout gs rows) where
   abbrev pages : List ℕ
-  pages = pages_of layout.page_size gs
+  pages = page_counts layout.page_size gs
 
   pages_count : length pages ≡ length gs
   pages_count = length-map gs (λ (g : Region). g.size / layout.page_size)

@@ -10,7 +10,7 @@ use Rattle.page_base.specs.Lanes as lanes
 use Rattle.page_base.specs.Pages.{stripe_of}
 use Rattle.page_base.specs.declared.keys.Key.{Key}
 use Rattle.page_base.specs.declared.layout.Layout.{Layout}
-use Rattle.store_trait.specs.Memory.{memory_origin, page_of}
+use Rattle.store_trait.specs.Memory.{memory_origin, page_bytes}
 use Rattle.store_trait.specs.MemLanes.{lane_origin, lane_seen}
 use Rattle.store_trait.specs.declared.mem_lane.MemLane.{MemLane}
 use Rattle.workload_text.specs.Line.{Line, map_line, script_line, load_line, store_line, prefetch_line, flush_line, unmap_line}
@@ -18,9 +18,9 @@ use Rattle.workload_text.specs.Grammar.{Region}
 use Rattle.workload_text.specs.Accepted.{AllFit, regions_of}
 use Rattle.script_run.specs.Serial.{serial_text}
 use Rattle.script_run.specs.Contents.{no_lane, rows_in, pages_in, contents_of}
-use Rattle.script_run.specs.Fits.{FitLanes, pages_of}
-use Rattle.script_run.specs.Replies.{Reply, nothing, begun, loaded, ok, unmapped, fault, spent, is_fault}
-use Rattle.script_run.specs.FitsSerial.{Spread, spread_of, stripe_in, lane_at, is_told, StoresTo, IsStored, MayAnswer, AllAnswer, left, count_in, counts_named, Rising, CountsFit, last_count, EndSeen, FitsSerial}
+use Rattle.script_run.specs.Fits.{FitLanes, page_counts}
+use Rattle.script_run.specs.Replies.{Reply, nothing, begun, loaded, ok, unmapped, fault, spent, is_fault_reply}
+use Rattle.script_run.specs.FitsSerial.{Spread, spread_of, stripe_in, lane_at, region_is_told, StoresTo, AnyStoresTo, MayAnswer, AllAnswer, left, fault_count_in, counts_named, Rising, CountsFit, last_count, EndSeen, FitsSerial}
 use Rattle.script_run.specs.FitsLaws.{AllTold}
 use Rattle.script_run.proofs.FittedLanes.{there, lane_there, row_len, lane_is, pages_fit, some_row}
 use Rattle.script_run.proofs.WithoutFaults.{without_faults}
@@ -44,7 +44,7 @@ stores_known gs z k (unmap_line r) fit s = absurd s
 
 module _ (gs : List Region) (t : Spread) (told : ℕ → Bool) where
   abbrev KnownIn : List Line → Type 0
-  KnownIn lines = (k : Key) → IsStored t.page_size lines k → k.region < length gs
+  KnownIn lines = (k : Key) → AnyStoresTo t.page_size lines k → k.region < length gs
 
   known_more : (lines : List Line) (l : Line) → AllFit gs (l ∷ []) → KnownIn lines → KnownIn (l ∷ lines)
   known_more lines l fit all k s = elim s [ inl here ↦ stores_known gs t.page_size k l fit here | inr more ↦ all k more ]
@@ -81,10 +81,10 @@ module _ (gs : List Region) (t : Spread) (told : ℕ → Bool) where
 
 -- ---- where no count is named, there is no fault
 
-names_one : (t : Spread) (k : Key) (count done : ℕ) → count_in t (stripe_in t k) k.region (fault k count done) ≡ count ∷ []
+names_one : (t : Spread) (k : Key) (count done : ℕ) → fault_count_in t (stripe_in t k) k.region (fault k count done) ≡ count ∷ []
 names_one t k count done = ap (λ b. cond b (count ∷ []) []) (and_from (stripe_in t k == stripe_in t k) (k.region == k.region) (eq-eqb _ _ refl) (eq-eqb _ _ refl))
 
-none_named : (gs : List Region) (t : Spread) (replies : List Reply) → 0 < t.stripes → AllKnown gs replies → ((s r : ℕ) → s < t.stripes → r < length gs → counts_named t s r replies ≡ []) → list_any is_fault replies ≡ false
+none_named : (gs : List Region) (t : Spread) (replies : List Reply) → 0 < t.stripes → AllKnown gs replies → ((s r : ℕ) → s < t.stripes → r < length gs → counts_named t s r replies ≡ []) → list_any is_fault_reply replies ≡ false
 none_named gs t [] some known none = refl
 none_named gs t (fault k count done ∷ more) some known none =
     let e : (count ∷ []) ++ counts_named t (stripe_in t k) k.region more ≡ [] = ap (λ ns. ns ++ counts_named t (stripe_in t k) k.region more) (sym (names_one t k count done)) ∙ none (stripe_in t k) k.region (mod_below (k.region + k.page / 1) t.stripes some) known.0 in
@@ -146,13 +146,13 @@ mem_row P (st ∷ sts) (suc s) row e all = mem_row P sts s row e all
 
 -- a lane in memory tells each of its pages
 mem_tells : (x : MemLane) (page : ℕ) → lanes.has_page (lane_origin x) page ≡ true → is_some (told_at (lane_seen x).told page) ≡ true
-mem_tells x page has = ap is_some (told_of_page (lane_origin x) (λ (q : ℕ). page_of x.page_size x.kept.items (q / x.stripes)) page has)
+mem_tells x page has = ap is_some (told_of_page (lane_origin x) (λ (q : ℕ). page_bytes x.page_size x.kept.items (q / x.stripes)) page has)
 
 module _ (layout : Layout) (gs : List Region) (stripes : List (ListSeen MemLane)) (fit : FitLanes layout gs (rows_in stripes)) where
   pub all_told : AllTold (rows_in stripes)
   all_told r = from_range (λ page. is_some (told_at (lane_at (rows_in stripes) (stripe_of (length (rows_in stripes)) 1 r page) r).told page)) 0 (get_or (pages_in (rows_in stripes)) r 0) (λ page low high. one page (subst (λ (ps : List ℕ). page < get_or ps r 0) (pages_fit layout gs (rows_in stripes) fit) (omega (arith, high))))
     where
-      one : (page : ℕ) → page < get_or (pages_of layout.page_size gs) r 0 → is_some (told_at (lane_at (rows_in stripes) (stripe_of (length (rows_in stripes)) 1 r page) r).told page) ≡ true
+      one : (page : ℕ) → page < get_or (page_counts layout.page_size gs) r 0 → is_some (told_at (lane_at (rows_in stripes) (stripe_of (length (rows_in stripes)) 1 r page) r).told page) ≡ true
       one page below =
           let rows : List (List LaneSeen) = rows_in stripes in
           let s : ℕ = stripe_of (length rows) 1 r page in
@@ -161,14 +161,14 @@ module _ (layout : Layout) (gs : List Region) (stripes : List (ListSeen MemLane)
           let row = there rows s s_below in
           let lane = there row.0 r (omega (arith, known, row_len layout gs rows fit s s_below, ap length (get_or_from_slice_get rows s row.0 [] row.1))) in
           let is : lane_at rows s r ≡ lane.0 = lane_there rows s r row.0 lane.0 row.1 lane.1 in
-          let o : lane.0.origin ≡ memory_origin r (get_or (pages_of layout.page_size gs) r 0) layout.page_size (length rows) s = ap (λ (l : LaneSeen). l.origin) (sym is) ∙ lane_is layout gs rows fit s r s_below known in
-          let has : lanes.has_page lane.0.origin page ≡ true = ap (λ (x : Origin). lanes.has_page x page) o ∙ and_from _ _ (lt-ltb page (get_or (pages_of layout.page_size gs) r 0) below) (eq-eqb _ _ refl) in
+          let o : lane.0.origin ≡ memory_origin r (get_or (page_counts layout.page_size gs) r 0) layout.page_size (length rows) s = ap (λ (l : LaneSeen). l.origin) (sym is) ∙ lane_is layout gs rows fit s r s_below known in
+          let has : lanes.has_page lane.0.origin page ≡ true = ap (λ (x : Origin). lanes.has_page x page) o ∙ and_from _ _ (lt-ltb page (get_or (page_counts layout.page_size gs) r 0) below) (eq-eqb _ _ refl) in
           let tells : lanes.has_page lane.0.origin page ≡ true → is_some (told_at lane.0.told page) ≡ true =
           mem_row (λ (x : List LaneSeen). slice_get x r ≡ Some lane.0 → lanes.has_page lane.0.origin page ≡ true → is_some (told_at lane.0.told page) ≡ true) stripes s row.0 row.1
           (λ st e. mem_at (λ (l : LaneSeen). lanes.has_page l.origin page ≡ true → is_some (told_at l.told page) ≡ true) st r lane.0 e (λ x h. mem_tells x page h)) lane.1 in
           ap (λ (l : LaneSeen). is_some (told_at l.told page)) is ∙ tells has
         where
-          region_known : (gs : List Region) (r : ℕ) → page < get_or (pages_of layout.page_size gs) r 0 → r < length gs
+          region_known : (gs : List Region) (r : ℕ) → page < get_or (page_counts layout.page_size gs) r 0 → r < length gs
           region_known [] r below = absurd (omega (arith, below))
           region_known (g ∷ gs) zero below = omega arith
           region_known (g ∷ gs) (suc r) below = omega (arith, region_known gs r below)
@@ -178,8 +178,8 @@ pub memory_text : (layout : Layout) (lines : List Line) (stripes ends : List (Li
 memory_text layout lines stripes ends e fit all f =
     let t : Spread = spread_of layout in
     let gs : List Region = regions_of lines in
-    let known : AllKnown gs f.replies = all_known gs t (is_told (rows_in stripes)) [] (contents_of (rows_in stripes)) lines f.replies all (λ k s. absurd s) f.answered in
-    let none : list_any is_fault f.replies ≡ false = none_named gs t f.replies (omega (arith, layout.some_stripe)) known (λ s r stripe region. none_counted (lane_at (rows_in stripes) s r).count (counts_named t s r f.replies) (lane_at (rows_in ends) s r).count (f.counts s r stripe region) (zero_counts ends s r)) in
+    let known : AllKnown gs f.replies = all_known gs t (region_is_told (rows_in stripes)) [] (contents_of (rows_in stripes)) lines f.replies all (λ k s. absurd s) f.answered in
+    let none : list_any is_fault_reply f.replies ≡ false = none_named gs t f.replies (omega (arith, layout.some_stripe)) known (λ s r stripe region. none_counted (lane_at (rows_in stripes) s r).count (counts_named t s r f.replies) (lane_at (rows_in ends) s r).count (f.counts s r stripe region) (zero_counts ends s r)) in
     let calm : f.failed ≡ false = elim (cases_Bool f.failed) [
       | inl failed ↦ absurd (let x = f.rose failed in omega (arith, x.4, zero_counts ends x.0 x.1))
       | inr fine ↦ fine

@@ -8,7 +8,7 @@ use Rattle.page_base.specs.Lanes.{Origin, LaneSeen, has_page, told_at}
 use Rattle.page_model.specs.Core.{Core}
 use Rattle.page_model.specs.Readers.{IsHere}
 use Rattle.serial_pager.specs.Holdings.{count_of_place, count_of_region, count_at}
-use Rattle.store_trait.specs.Memory.{page_of, told_by}
+use Rattle.store_trait.specs.Memory.{page_bytes, told_by}
 use Rattle.store_trait.specs.WholePages.{told_at-told_by}
 
 some_is : {A : Type 0} {x y : A} → Some x ≡ Some y → x ≡ y
@@ -39,11 +39,11 @@ pub rows_apart : (i j n : ℕ) → i < j → i * n + n ≤ j * n
 rows_apart i j n h = omega (arith, mul-le (i + 1) n j n (omega arith) (omega arith))
 
 -- a page below the end of a list stays where more is appended
-pub page_of-append : (size row : ℕ) (xs ys : List ℕ) → row * size + size ≤ length xs → page_of size (xs ++ ys) row ≡ page_of size xs row
+pub page_of-append : (size row : ℕ) (xs ys : List ℕ) → row * size + size ≤ length xs → page_bytes size (xs ++ ys) row ≡ page_bytes size xs row
 page_of-append size row xs ys fits = rw (add-sub_cancel_left (row * size) size) (same_lists _ _ (search (rules, places)) (λ k d h. grind (arith, places)))
 
 -- what is appended is the page behind
-pub page_of-appended : (size row : ℕ) (xs ys : List ℕ) → length xs ≡ row * size → length ys ≡ size → page_of size (xs ++ ys) row ≡ ys
+pub page_of-appended : (size row : ℕ) (xs ys : List ℕ) → length xs ≡ row * size → length ys ≡ size → page_bytes size (xs ++ ys) row ≡ ys
 page_of-appended size row xs ys e f = rw (add-sub_cancel_left (row * size) size) (same_lists _ _ (search (rules, places)) (λ k d h. grind (arith, places)))
 
 -- what a lane tells of a page that it has

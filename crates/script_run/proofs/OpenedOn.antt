@@ -13,11 +13,11 @@ use Rattle.page_base.specs.Pages.{stripe_of}
 use Rattle.page_base.specs.declared.keys.RegionShape.{RegionShape}
 use Rattle.page_base.specs.declared.layout.Layout.{Layout}
 use Rattle.page_model.specs.Core.{Core}
-use Rattle.page_model.specs.Setups.{Setup, told_by, count_by}
+use Rattle.page_model.specs.Setups.{Setup, told_in, count_by}
 use Rattle.page_model.specs.Setups as setups
 use Rattle.page_model.specs.Stands.{StandsFor}
 use Rattle.stripe_core.specs.Configs.{setup_of}
-use Rattle.store_trait.specs.Memory.{page_of}
+use Rattle.store_trait.specs.Memory.{page_bytes}
 use Rattle.serial_pager.specs.declared.pager.PagerConfig.{PagerConfig}
 use Rattle.serial_pager.specs.Seen.{StripeSeen}
 use Rattle.serial_pager.specs.Pagers as pagers
@@ -25,10 +25,10 @@ use Rattle.serial_pager.specs.Pagers.{PagerSeen, config_of, CanOpen, IsMade, IsO
 use Rattle.workload_text.specs.Grammar.{Region, size_at}
 use Rattle.script_run.specs.Serial.{bytes_at}
 use Rattle.script_run.specs.Contents.{no_lane, joined, pages_in, page_told, contents_of}
-use Rattle.script_run.specs.Fits.{FitLanes, pages_of, has_whole_pages}
-use Rattle.script_run.specs.FitsSerial.{spread_of, lane_at, is_told}
+use Rattle.script_run.specs.Fits.{FitLanes, page_counts, has_whole_pages}
+use Rattle.script_run.specs.FitsSerial.{spread_of, lane_at, region_is_told}
 use Rattle.script_run.specs.FitsJournals.{setup_at}
-use Rattle.script_run.specs.InsideRanges.{pages_at, key_of, HoldsRegion}
+use Rattle.script_run.specs.InsideRanges.{pages_at, range_key, HoldsRegion}
 use Rattle.script_run.specs.InsideRunning.{IsShaped, Shows, OpensOn, shape_of}
 use Rattle.script_run.specs.declared.settings.Settings.{Settings}
 use Rattle.script_run.proofs.Contents.{AreWhole, length-joined, page_of-joined, length-contents_by, get_or-contents_by}
@@ -53,9 +53,9 @@ core_there (Some x) c e = (x, (refl, let same : x.core ≡ c = cc in same))
 module _ (layout : Layout) (gs : List Region) (rows : List (List LaneSeen)) (fit : FitLanes layout gs rows) (whole : AreWholeRows rows) where
   -- ---- told pages
 
-  module _ (r : ℕ) (known : r < length gs) (told : is_told rows r ≡ true) where
+  module _ (r : ℕ) (known : r < length gs) (told : region_is_told rows r ≡ true) where
     n : ℕ
-    n = get_or (pages_of layout.page_size gs) r 0
+    n = get_or (page_counts layout.page_size gs) r 0
 
     stripe : ℕ → ℕ
     stripe page = stripe_of (length rows) 1 r page
@@ -71,7 +71,7 @@ module _ (layout : Layout) (gs : List Region) (rows : List (List LaneSeen)) (fit
       pub tells : told_at lane.told page ≡ Some (page_told rows r page)
       pub sized : length (page_told rows r page) ≡ layout.page_size
 
-    pub told_page : (page : ℕ) → page < get_or (pages_of layout.page_size gs) r 0 → ToldAt page
+    pub told_page : (page : ℕ) → page < get_or (page_counts layout.page_size gs) r 0 → ToldAt page
     told_page page below =
         let s : ℕ = stripe_of (length rows) 1 r page in
         let row = there rows s (stripe_below page) in
@@ -96,10 +96,10 @@ module _ (layout : Layout) (gs : List Region) (rows : List (List LaneSeen)) (fit
           sized = ap length same ∙ long ∙ ap (λ (l : LaneSeen). l.origin.page_size) (sym is) ∙ ap (λ (o : Origin). o.page_size) (lane_is layout gs rows fit s r (stripe_below page) known);
         }
 
-    pub pages_whole : AreWhole layout.page_size (get_or (pages_of layout.page_size gs) r 0) (page_told rows r)
+    pub pages_whole : AreWhole layout.page_size (get_or (page_counts layout.page_size gs) r 0) (page_told rows r)
     pages_whole = record { each = λ p below. (told_page p below).sized }
 
-    pub region_is : bytes_at (contents_of rows) r ≡ joined (get_or (pages_of layout.page_size gs) r 0) (page_told rows r)
+    pub region_is : bytes_at (contents_of rows) r ≡ joined (get_or (page_counts layout.page_size gs) r 0) (page_told rows r)
     region_is =
         get_or-contents_by (pages_in rows) (page_told rows) r [] (omega (arith, known, ap length (pages_fit layout gs rows fit), length-map gs (λ (g : Region). g.size / layout.page_size)))
         ∙ ap (λ (ps : List ℕ). joined (get_or ps r 0) (page_told rows r)) (pages_fit layout gs rows fit)
@@ -113,7 +113,7 @@ module _ (layout : Layout) (gs : List Region) (rows : List (List LaneSeen)) (fit
     shapes_are : p.shapes ≡ map (shape_of layout.page_size) gs
     shapes_are = opened.shapes ∙ shapes
 
-    pages_are : (r : ℕ) → pages_at p r ≡ get_or (pages_of layout.page_size gs) r 0
+    pages_are : (r : ℕ) → pages_at p r ≡ get_or (page_counts layout.page_size gs) r 0
     pages_are r = ap (λ (ss : List RegionShape). setups.pages_of (slice_get ss r)) shapes_are ∙ pages_of_shape layout.page_size gs r
 
     size_is : p.page_size ≡ layout.page_size
@@ -125,7 +125,7 @@ module _ (layout : Layout) (gs : List Region) (rows : List (List LaneSeen)) (fit
       page_size = size_is;
       stripes = opened.stripes ∙ ap (λ (l : Layout). l.stripes) same;
       shapes = shapes_are;
-      whole = λ r known. sym (sizes_whole layout.page_size gs pages r known) ∙ sym (ap (λ m. m * p.page_size) (pages_are r) ∙ ap (λ z. get_or (pages_of layout.page_size gs) r 0 * z) size_is);
+      whole = λ r known. sym (sizes_whole layout.page_size gs pages r known) ∙ sym (ap (λ m. m * p.page_size) (pages_are r) ∙ ap (λ z. get_or (page_counts layout.page_size gs) r 0 * z) size_is);
       small = small;
     }
 
@@ -175,21 +175,21 @@ module _ (layout : Layout) (gs : List Region) (rows : List (List LaneSeen)) (fit
         ∙ ap (λ (ls : List LaneSeen). record (setup_at set p.shapes rows s) { lanes = ls }) (sym (get_or_from_slice_get rows s o.row [] o.row_is)) in
         ap (λ (x : Option (StripeSeen J)). option_map (λ (y : Core). y.setup) (core_in x)) o.stripe_is_ ∙ ap (λ (y : Core). Some y.setup) o.as_made.core ∙ ap (λ (x : Setup). Some x) its
 
-    holds : (r : ℕ) → r < length p.shapes → is_told rows r ≡ true → HoldsRegion p r (bytes_at (contents_of rows) r)
+    holds : (r : ℕ) → r < length p.shapes → region_is_told rows r ≡ true → HoldsRegion p r (bytes_at (contents_of rows) r)
     holds r below told =
         let known : r < length gs = omega (arith, below, ap length shapes_are, length-map gs (shape_of layout.page_size)) in
-        let m : ℕ = get_or (pages_of layout.page_size gs) r 0 in
+        let m : ℕ = get_or (page_counts layout.page_size gs) r 0 in
         let long : length (bytes_at (contents_of rows) r) ≡ m * layout.page_size = ap length (region_is r known told) ∙ length-joined layout.page_size m (page_told rows r) (pages_whole r known told) in
         record {
           whole = long ∙ sym (ap (λ q. q * p.page_size) (pages_are r) ∙ ap (λ z. m * z) size_is);
           each = λ page lt.
               let inside : page < m = omega (arith, lt, pages_are r) in
               let t = told_page r known told page inside in
-              let at : stripe_at p (key_of r page) ≡ stripe_of (length rows) 1 r page = stripe_is (spread_of layout) gs p shaped (key_of r page) ∙ ap (λ q. stripe_of q 1 r page) (sym fit.stripes) in
-              opened.holds (key_of r page) t.row (ap (slice_get rows) at ∙ t.at)
-              ∙ ap (λ (o : Option LaneSeen). told_by o page) t.here
+              let at : stripe_at p (range_key r page) ≡ stripe_of (length rows) 1 r page = stripe_is (spread_of layout) gs p shaped (range_key r page) ∙ ap (λ q. stripe_of q 1 r page) (sym fit.stripes) in
+              opened.holds (range_key r page) t.row (ap (slice_get rows) at ∙ t.at)
+              ∙ ap (λ (o : Option LaneSeen). told_in o page) t.here
               ∙ t.tells
-              ∙ ap (λ b. Some b) (sym (page_of-joined layout.page_size m (page_told rows r) page (pages_whole r known told) inside) ∙ ap (λ (b : List ℕ). page_of layout.page_size b page) (sym (region_is r known told)) ∙ ap (λ z. page_of z (bytes_at (contents_of rows) r) page) (sym size_is));
+              ∙ ap (λ b. Some b) (sym (page_of-joined layout.page_size m (page_told rows r) page (pages_whole r known told) inside) ∙ ap (λ (b : List ℕ). page_bytes layout.page_size b page) (sym (region_is r known told)) ∙ ap (λ z. page_bytes z (bytes_at (contents_of rows) r) page) (sym size_is));
         }
 
     counts : (s r : ℕ) → s < layout.stripes → count_at p s r ≡ (lane_at rows s r).count
@@ -209,7 +209,7 @@ module _ (layout : Layout) (gs : List Region) (rows : List (List LaneSeen)) (fit
       shaped = subst (λ (l : Layout). IsShaped (spread_of l) gs p) (sym set_layout) shaped;
       spent = opened.spent;
       stands = stands;
-      shows = subst (λ (l : Layout). Shows (spread_of l) (is_told rows) [] (contents_of rows) p) (sym set_layout) (record {
+      shows = subst (λ (l : Layout). Shows (spread_of l) (region_is_told rows) [] (contents_of rows) p) (sym set_layout) (record {
         count = length-contents_by (pages_in rows) (page_told rows) ∙ ap length (pages_fit layout gs rows fit) ∙ length-map gs (λ (g : Region). g.size / layout.page_size) ∙ sym (ap length shapes_are ∙ length-map gs (shape_of layout.page_size));
         holds = holds;
         owed = λ k e. absurd (let no : true ≡ false = sym e ∙ opened.owes k in cc);

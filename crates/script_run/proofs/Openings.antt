@@ -10,7 +10,7 @@ use Rattle.workload_text.specs.Line.{Line, map_line, script_line, load_line, sto
 use Rattle.workload_text.specs.Grammar.{Region, size_at}
 use Rattle.workload_text.specs.Accepted.{AllFit, regions_of}
 use Rattle.workload_text.specs.Built.{is_built}
-use Rattle.script_run.specs.Fits.{pages_of, has_whole_pages}
+use Rattle.script_run.specs.Fits.{page_counts, has_whole_pages}
 
 -- the pages of a row of origins
 pub origins_pages : (n size stripes s : ℕ) (pages : List ℕ) → map (λ (o : Origin). o.pages) (map (λ (e : ℕ × ℕ). memory_origin e.0 e.1 size stripes s) (enumerate_from n pages)) ≡ pages
@@ -23,7 +23,7 @@ item_at (x ∷ xs) zero below = (x, refl)
 item_at (x ∷ xs) (suc i) below = item_at xs i (omega arith)
 
 -- whole pages make the region's size
-pub sizes_whole : (z : ℕ) (gs : List Region) → has_whole_pages z gs ≡ true → (r : ℕ) → r < length gs → get_or (pages_of z gs) r 0 * z ≡ size_at gs r
+pub sizes_whole : (z : ℕ) (gs : List Region) → has_whole_pages z gs ≡ true → (r : ℕ) → r < length gs → get_or (page_counts z gs) r 0 * z ≡ size_at gs r
 sizes_whole z [] whole r below = absurd (omega arith)
 sizes_whole z (g ∷ gs) whole zero below = omega (arith, div-add-mod' g.size z, eqb-true (g.size % z) 0 (and_parts _ _ whole).0)
 sizes_whole z (g ∷ gs) whole (suc r) below = sizes_whole z gs (and_parts _ _ whole).1 r (omega arith)

@@ -3,10 +3,10 @@ use Rattle.std.proofs.Common.{◌≡◌, ℕ, ◌+◌, ◌*◌, ◌≤◌, List,
 use Rattle.std.proofs.lemmas.List.{places, same_lists, drop-drop}
 use borrow.Rule.Slice.PartMut.{put_mid}
 use Rattle.page_base.specs.ListSeen.{spliced}
-use Rattle.store_trait.specs.Memory.{page_of}
+use Rattle.store_trait.specs.Memory.{page_bytes}
 
 -- reading a piece of a page
-pub take_of_page : (size p place n : ℕ) (xs : List ℕ) → place + n ≤ size → p * size + (place + n) ≤ length xs → take n (drop place (page_of size xs p)) ≡ take n (drop (p * size + place) xs)
+pub take_of_page : (size p place n : ℕ) (xs : List ℕ) → place + n ≤ size → p * size + (place + n) ≤ length xs → take n (drop place (page_bytes size xs p)) ≡ take n (drop (p * size + place) xs)
 take_of_page size p place n xs fits inside = same_lists _ _ (search (rules, places)) (λ k d h. grind (arith, places))
 
 -- what a write to a part of a page leaves

@@ -10,10 +10,10 @@ use Rattle.workload_text.specs.Line.{Line, map_line, script_line, load_line, sto
 use Rattle.workload_text.specs.Grammar.{Region}
 use Rattle.workload_text.specs.Accepted.{loaded_bytes, command_count}
 use Rattle.script_run.specs.InsideRooms.{room, rooms}
-use Rattle.script_run.specs.Replies.{Reply, reply_text, replies_text, is_fault, bytes_shown}
+use Rattle.script_run.specs.Replies.{Reply, reply_text, replies_text, is_fault_reply, bytes_shown}
 use Rattle.script_run.specs.LineEntries.{Accesses, Failure, Makes, AllMake}
-use Rattle.script_run.specs.FitsSerial.{Spread, stripe_in, MayAnswer, AllAnswer, left, left_by, count_in, counts_named, Rising, last_count, CountsFit}
-use Rattle.script_run.specs.InsideRanges.{GoesOn}
+use Rattle.script_run.specs.FitsSerial.{Spread, stripe_in, MayAnswer, AllAnswer, left, left_by, fault_count_in, counts_named, Rising, last_count, CountsFit}
+use Rattle.script_run.specs.InsideRanges.{RangeGoesOn}
 use Rattle.script_run.specs.InsideRunning.{Shows, behind, Ran}
 use Rattle.script_run.specs.declared.replies.Replies.{Replies}
 use Rattle.script_run.proofs.Makings.{all_none, all_more, order_none}
@@ -114,9 +114,9 @@ module _ (t : Spread) where
 
 -- ---- runs
 
-pub any_append : (xs ys : List Reply) → list_any is_fault (xs ++ ys) ≡ (list_any is_fault xs || list_any is_fault ys)
+pub any_append : (xs ys : List Reply) → list_any is_fault_reply (xs ++ ys) ≡ (list_any is_fault_reply xs || list_any is_fault_reply ys)
 any_append [] ys = refl
-any_append (x ∷ xs) ys = ap (λ b. is_fault x || b) (any_append xs ys) ∙ or_assoc_ (is_fault x) (list_any is_fault xs) (list_any is_fault ys)
+any_append (x ∷ xs) ys = ap (λ b. is_fault_reply x || b) (any_append xs ys) ∙ or_assoc_ (is_fault_reply x) (list_any is_fault_reply xs) (list_any is_fault_reply ys)
   where
     or_assoc_ : (x y z : Bool) → (x || (y || z)) ≡ ((x || y) || z)
     or_assoc_ true y z = refl
@@ -160,13 +160,13 @@ module _ {J : Type 0} (has_noted : J → History Entry → Type 0) (t : Spread) 
         loaded = omega (arith, a.loaded, b.loaded, long);
         added = omega (arith, a.added, b.added, ap sum shown ∙ sum_by-append (λ (n : ℕ). n) (flat_map bytes_shown a.replies) (flat_map bytes_shown b.replies));
         within = omega (arith, a.within, b.within, long, bytes-append xs ys);
-        faulted = b.faulted ∙ ap (λ x. x || list_any is_fault b.replies) a.faulted ∙ or_assoc r0.faulted (list_any is_fault a.replies) (list_any is_fault b.replies) ∙ ap (λ x. r0.faulted || x) (sym (any_append a.replies b.replies));
+        faulted = b.faulted ∙ ap (λ x. x || list_any is_fault_reply b.replies) a.faulted ∙ or_assoc r0.faulted (list_any is_fault_reply a.replies) (list_any is_fault_reply b.replies) ∙ ap (λ x. r0.faulted || x) (sym (any_append a.replies b.replies));
         answered = λ told regions shows.
             let first = a.answered told regions shows in
             let second = b.answered told (left_by regions xs a.replies) first.1 in
             let both = all_append t told before regions xs ys a.replies b.replies first.0 second.0 in
             (both.0, subst (λ rs. Shows t told (behind before (xs ++ ys)) rs z) (sym both.1) (subst (λ ls. Shows t told ls (left_by (left_by regions xs a.replies) ys b.replies) z) (sym (behind-append before xs ys)) second.1));
-        counts = λ s r. subst (λ ns. CountsFit (count_at p s r) ns (count_at z s r)) (sym (flat_map-append (count_in t s r) a.replies b.replies)) (counts_more (count_at p s r) (count_at q s r) (count_at z s r) (counts_named t s r a.replies) (counts_named t s r b.replies) (a.counts s r) (b.counts s r));
+        counts = λ s r. subst (λ ns. CountsFit (count_at p s r) ns (count_at z s r)) (sym (flat_map-append (fault_count_in t s r) a.replies b.replies)) (counts_more (count_at p s r) (count_at q s r) (count_at z s r) (counts_named t s r a.replies) (counts_named t s r b.replies) (a.counts s r) (b.counts s r));
         same = same_more p q z a.same b.same;
         pieces = omega (arith, a.pieces, b.pieces, commands-append xs ys);
         made = λ s. b.made s ++ a.made s;
@@ -178,9 +178,9 @@ module _ {J : Type 0} (has_noted : J → History Entry → Type 0) (t : Spread) 
 
   -- one line with its reply
   pub ran_one : (before : List Line) (l : Line) (a : Reply) (len : ℕ) (r0 r1 : Replies) (p q : PagerSeen J) → r1.text.items ≡ r0.text.items ++ reply_text gs a → r0.text.spare ≤ r1.text.spare + room gs l → r1.loaded ≡ r0.loaded + length (bytes_shown a) → r1.sum ≡ r0.sum + sum (bytes_shown a)
-      → length (bytes_shown a) ≤ loaded_bytes (l ∷ []) → r1.faulted ≡ (r0.faulted || is_fault a)
+      → length (bytes_shown a) ≤ loaded_bytes (l ∷ []) → r1.faulted ≡ (r0.faulted || is_fault_reply a)
       → ((told : ℕ → Bool) (regions : List (List ℕ)) → Shows t told before regions p → MayAnswer t told (l ∷ before) regions l a × Shows t told (l ∷ before) (left regions l a) q)
-      → ((s r : ℕ) → CountsFit (count_at p s r) (count_in t s r a) (count_at q s r)) → GoesOn len p q → len ≤ 65536 * command_count (l ∷ []) → (made : ℕ → List Entry) → WentAll has_noted made p q → Makes t l a made
+      → ((s r : ℕ) → CountsFit (count_at p s r) (fault_count_in t s r a) (count_at q s r)) → RangeGoesOn len p q → len ≤ 65536 * command_count (l ∷ []) → (made : ℕ → List Entry) → WentAll has_noted made p q → Makes t l a made
       → Ran has_noted t gs before (l ∷ []) r0 r1 p q
   ran_one before l a len r0 r1 p q text spare loaded added within faulted answered counts goes few made went makes =
       let shown : flat_map bytes_shown (a ∷ []) ≡ bytes_shown a = append-nil (bytes_shown a) in
@@ -191,9 +191,9 @@ module _ {J : Type 0} (has_noted : J → History Entry → Type 0) (t : Spread) 
         loaded = omega (arith, loaded, ap length shown);
         added = omega (arith, added, ap sum shown);
         within = omega (arith, within, ap length shown);
-        faulted = faulted ∙ ap (λ x. r0.faulted || x) (sym (or_none (is_fault a)));
+        faulted = faulted ∙ ap (λ x. r0.faulted || x) (sym (or_none (is_fault_reply a)));
         answered = λ told regions shows. let h = answered told regions shows in ((h.0, tt), h.1);
-        counts = λ s r. subst (λ ns. CountsFit (count_at p s r) ns (count_at q s r)) (sym (append-nil (count_in t s r a))) (counts s r);
+        counts = λ s r. subst (λ ns. CountsFit (count_at p s r) ns (count_at q s r)) (sym (append-nil (fault_count_in t s r a))) (counts s r);
         same = goes.same;
         pieces = omega (arith, goes.spent, few);
         made = made;

@@ -13,16 +13,16 @@ use Rattle.page_model.specs.declared.entry.Entry.TheVariants.{Load, Save}
 use Rattle.serial_pager.specs.declared.fault.PageFault.{PageFault}
 use Rattle.std.proofs.lemmas.Option.{slice_get_within}
 use Rattle.region_table.specs.Pieces.{pieces_of}
-use Rattle.serial_pager.specs.Pagers.{PagerSeen, group_in, page_in, has_page, may_store, is_writable, stripe_at, held, owes, count_at, HoldsSame}
+use Rattle.serial_pager.specs.Pagers.{PagerSeen, group_in, region_has_page, has_key, may_store, is_writable, stripe_at, held, owes, count_at, HoldsSame}
 use Rattle.workload_text.specs.Line.{Line, script_line, load_line, store_line}
 use Rattle.workload_text.specs.Grammar.{Region, size_at, writable_at}
 use Rattle.script_run.specs.Serial.{bytes_at, load_reply}
 use Rattle.script_run.specs.InsideRooms.{fault_room}
 use Rattle.script_run.specs.Replies.{begun, loaded, ok, fault, reply_text}
-use Rattle.script_run.specs.FitsSerial.{Spread, stripe_in, StoresTo, Names, EndsAt, piece_key, count_in, CountsFit}
+use Rattle.script_run.specs.FitsSerial.{Spread, stripe_in, StoresTo, Names, EndsAt, piece_key, fault_count_in, CountsFit}
 use Rattle.script_run.specs.LineEntries.{Fails, MakesInOrder}
 use Rattle.page_model.specs.Pieces.{loads, saves, AreBefore}
-use Rattle.script_run.specs.InsideRanges.{IsRange, HoldsRegion, GoesOn, FaultsAt, GoesBy, BreaksOff}
+use Rattle.script_run.specs.InsideRanges.{IsRange, HoldsRegion, RangeGoesOn, FaultsAt, GoesBy, BreaksOff}
 use Rattle.script_run.specs.InsideRunning.{IsShaped, Shows, Ran, shape_of}
 use Rattle.script_run.specs.declared.replies.Replies.{Replies}
 use Rattle.script_run.proofs.Ranged.{region_kept, region_kept_in, goes_none}
@@ -62,7 +62,7 @@ module _ {J : Type 0} (t : Spread) (gs : List Region) (p : PagerSeen J) (shaped 
 
   -- ---- what is shown behind a line
 
-  module _ (told : ℕ → Bool) (before : List Line) (l : Line) (regions : List (List ℕ)) (q : PagerSeen J) (n : ℕ) (goes : GoesOn n p q) (shows : Shows t told before regions p) where
+  module _ (told : ℕ → Bool) (before : List Line) (l : Line) (regions : List (List ℕ)) (q : PagerSeen J) (n : ℕ) (goes : RangeGoesOn n p q) (shows : Shows t told before regions p) where
     many : length p.shapes ≡ length q.shapes
     many = sym (ap length goes.same.shapes)
 
@@ -73,7 +73,7 @@ module _ {J : Type 0} (t : Spread) (gs : List Region) (p : PagerSeen J) (shaped 
       owed = λ k e. inr (shows.owed k (owed k e));
     }
 
-    pub shows_stored : (r off : ℕ) (bytes : List ℕ) → r < length p.shapes → ((k : Key) → has_page p k ≡ true → (k.region ≡ r → ⊥) → held q k ≡ held p k) → ((k : Key) → owes q k ≡ true → (owes p k ≡ true) ⊎ StoresTo t.page_size k l)
+    pub shows_stored : (r off : ℕ) (bytes : List ℕ) → r < length p.shapes → ((k : Key) → has_key p k ≡ true → (k.region ≡ r → ⊥) → held q k ≡ held p k) → ((k : Key) → owes q k ≡ true → (owes p k ≡ true) ⊎ StoresTo t.page_size k l)
         → ((b : List ℕ) → HoldsRegion p r b → HoldsRegion q r (spliced b off bytes)) → Shows t told (l ∷ before) (set regions r (spliced (bytes_at regions r) off bytes)) q
     shows_stored r off bytes below others owed done = record {
       count = length-set regions r (spliced (bytes_at regions r) off bytes) ∙ shows.count ∙ many;
@@ -108,10 +108,10 @@ module _ {J : Type 0} (t : Spread) (gs : List Region) (p : PagerSeen J) (shaped 
 
   -- ---- counts
 
-  pub counts_same : (q : PagerSeen J) (n : ℕ) → GoesOn n p q → (s r : ℕ) → CountsFit (count_at p s r) [] (count_at q s r)
+  pub counts_same : (q : PagerSeen J) (n : ℕ) → RangeGoesOn n p q → (s r : ℕ) → CountsFit (count_at p s r) [] (count_at q s r)
   counts_same q n goes s r = record { rising = tt; within = goes.counts s r }
 
-  pub counts_fault : (q : PagerSeen J) (n r off len done : ℕ) (stores : Key → Type 0) (f : PageFault) → GoesOn n p q → FaultsAt p q r off len stores done f → (s g : ℕ) → CountsFit (count_at p s g) (count_in t s g (fault f.key f.faults done)) (count_at q s g)
+  pub counts_fault : (q : PagerSeen J) (n r off len done : ℕ) (stores : Key → Type 0) (f : PageFault) → RangeGoesOn n p q → FaultsAt p q r off len stores done f → (s g : ℕ) → CountsFit (count_at p s g) (fault_count_in t s g (fault f.key f.faults done)) (count_at q s g)
   counts_fault q n r off len done stores f goes at s g = elim (cases_Bool (stripe_in t f.key == s && f.key.region == g)) [
     | inl yes_ ↦
         let parts = and_parts (stripe_in t f.key == s) (f.key.region == g) yes_ in
@@ -154,7 +154,7 @@ module _ {J : Type 0} (t : Spread) (gs : List Region) (p : PagerSeen J) (shaped 
       or_true true = refl
       or_true false = refl
 
-      pub ran_load : (len : ℕ) (bytes : List ℕ) → length bytes ≡ len → len ≤ 65536 → GoesOn len p q → HoldsSame p q → ((k : Key) → owes q k ≡ true → owes p k ≡ true) → ((b : List ℕ) → HoldsRegion p r b → bytes ≡ take len (drop off b))
+      pub ran_load : (len : ℕ) (bytes : List ℕ) → length bytes ≡ len → len ≤ 65536 → RangeGoesOn len p q → HoldsSame p q → ((k : Key) → owes q k ≡ true → owes p k ≡ true) → ((b : List ℕ) → HoldsRegion p r b → bytes ≡ take len (drop off b))
           → r1.text.items ≡ r0.text.items ++ load_reply bytes → r0.text.spare ≤ r1.text.spare + (2 * length bytes + 6) → r1.loaded ≡ r0.loaded + length bytes → r1.sum ≡ r0.sum + sum bytes → r1.faulted ≡ r0.faulted
           → GoesBy has_noted (loads (pieces_of p.page_size r off len) bytes) [] p q
           → Ran has_noted t gs before (load_line r off len ∷ []) r0 r1 p q
@@ -170,7 +170,7 @@ module _ {J : Type 0} (t : Spread) (gs : List Region) (p : PagerSeen J) (shaped 
             in_order = made_in (loads (pieces_of p.page_size r off len) bytes) [] by.made by.in_order;
           })
 
-      pub ran_load_fault : (len done : ℕ) (f : PageFault) → len ≤ 65536 → GoesOn len p q → HoldsSame p q → ((k : Key) → owes q k ≡ true → owes p k ≡ true) → FaultsAt p q r off len (λ k. ⊥) done f
+      pub ran_load_fault : (len done : ℕ) (f : PageFault) → len ≤ 65536 → RangeGoesOn len p q → HoldsSame p q → ((k : Key) → owes q k ≡ true → owes p k ≡ true) → FaultsAt p q r off len (λ k. ⊥) done f
           → r1.text.items ≡ r0.text.items ++ reply_text gs (fault f.key f.faults done) → r0.text.spare ≤ r1.text.spare + fault_room gs → r1.loaded ≡ r0.loaded → r1.sum ≡ r0.sum → r1.faulted ≡ true
           → (bytes : List ℕ) → length bytes ≡ done → BreaksOff has_noted (λ k place its. Load k place its) (pieces_of p.page_size r off len) bytes (piece_key p.page_size r (off + done)) done f p q
           → Ran has_noted t gs before (load_line r off len ∷ []) r0 r1 p q
@@ -186,7 +186,7 @@ module _ {J : Type 0} (t : Spread) (gs : List Region) (p : PagerSeen J) (shaped 
             in_order = made_in (loads by.pieces bytes) (by.failure ∷ []) by.goes.made by.goes.in_order;
           })
 
-      module _ (bytes : List ℕ) (short : length bytes ≤ 65536) (goes : GoesOn (length bytes) p q) (others : (k : Key) → has_page p k ≡ true → (k.region ≡ r → ⊥) → held q k ≡ held p k) (owed : (k : Key) → owes q k ≡ true → (owes p k ≡ true) ⊎ StoresTo p.page_size k (store_line r off bytes)) where
+      module _ (bytes : List ℕ) (short : length bytes ≤ 65536) (goes : RangeGoesOn (length bytes) p q) (others : (k : Key) → has_key p k ≡ true → (k.region ≡ r → ⊥) → held q k ≡ held p k) (owed : (k : Key) → owes q k ≡ true → (owes p k ≡ true) ⊎ StoresTo p.page_size k (store_line r off bytes)) where
         owed_in : (k : Key) → owes q k ≡ true → (owes p k ≡ true) ⊎ StoresTo t.page_size k (store_line r off bytes)
         owed_in k e = elim (owed k e) [ inl h ↦ inl h | inr h ↦ inr (subst (λ z. StoresTo z k (store_line r off bytes)) shaped.page_size h) ]
 
@@ -224,6 +224,6 @@ module _ {J : Type 0} (t : Spread) (gs : List Region) (p : PagerSeen J) (shaped 
 pub fault_known : {J : Type 0} (t : Spread) (gs : List Region) (p q : PagerSeen J) (r off len done : ℕ) (stores : Key → Type 0) (f : PageFault) → IsShaped t gs p → FaultsAt p q r off len stores done f → f.key.region < length gs
 fault_known t gs p q r off len done stores f shaped at = subst (λ n. f.key.region < n) (regions_are t gs p shaped) (go (slice_get p.shapes f.key.region) refl at.page)
   where
-    go : (o : Option RegionShape) → slice_get p.shapes f.key.region ≡ o → page_in o f.key.page ≡ true → f.key.region < length p.shapes
+    go : (o : Option RegionShape) → slice_get p.shapes f.key.region ≡ o → region_has_page o f.key.page ≡ true → f.key.region < length p.shapes
     go None e h = absurd (cc)
     go (Some s) e h = slice_get_within p.shapes f.key.region s e

@@ -10,7 +10,7 @@ use Rattle.page_base.specs.ListSeen.{spliced}
 use Rattle.page_base.specs.declared.keys.Key.{Key}
 use Rattle.page_model.specs.declared.entry.Entry.{Entry}
 use Rattle.serial_pager.specs.Pagers as pagers
-use Rattle.serial_pager.specs.Pagers.{PagerSeen, AreRowsOf, has_page, kept, owes, count_at, IsSame, HoldsSame, CountsGrow, RoseAt, IsKept, IsTried}
+use Rattle.serial_pager.specs.Pagers.{PagerSeen, AreRowsOf, has_key, kept, owes, count_at, IsSame, HoldsSame, CountsGrow, RoseAt, IsKept, IsTried}
 use Rattle.workload_text.specs.Line.{Line, map_line, script_line, load_line, store_line, prefetch_line, flush_line, unmap_line}
 use Rattle.workload_text.specs.Grammar.{Region, writable_at}
 use Rattle.workload_text.specs.Accepted.{AllFit, IsRunnable, regions_of}
@@ -19,8 +19,8 @@ use Rattle.script_run.specs.InsideRooms.{rooms}
 use Rattle.script_run.specs.Serial.{bytes_at, stored}
 use Rattle.script_run.specs.Contents.{contents_of, origins_of}
 use Rattle.script_run.specs.Fits.{FitLanes}
-use Rattle.script_run.specs.Replies.{Reply, nothing, begun, loaded, ok, unmapped, fault, spent, is_fault, replies_text}
-use Rattle.script_run.specs.FitsSerial.{spread_of, lane_at, is_told, StoresTo, IsStored, AllAnswer, left, left_by, counts_named, CountsFit, NoMore, last_count, EndSeen, FitsSerial}
+use Rattle.script_run.specs.Replies.{Reply, nothing, begun, loaded, ok, unmapped, fault, spent, is_fault_reply, replies_text}
+use Rattle.script_run.specs.FitsSerial.{spread_of, lane_at, region_is_told, StoresTo, AnyStoresTo, AllAnswer, left, left_by, counts_named, CountsFit, NoMore, last_count, EndSeen, FitsSerial}
 use Rattle.script_run.specs.FitsJournals.{setup_at}
 use Rattle.script_run.specs.InsideRanges.{HoldsRegion}
 use Rattle.script_run.specs.InsideRunning.{IsShaped, MayRun, Shows, Ran, OpensOn, behind, shape_of}
@@ -42,7 +42,7 @@ module _ (gs : List Region) (z : ℕ) (k : Key) (closed : writable_at gs k.regio
   not_here flush_line fit s = s
   not_here (unmap_line r) fit s = s
 
-  pub never_stored : (before lines : List Line) → AllFit gs lines → IsStored z (behind before lines) k → IsStored z before k
+  pub never_stored : (before lines : List Line) → AllFit gs lines → AnyStoresTo z (behind before lines) k → AnyStoresTo z before k
   never_stored before [] fit s = s
   never_stored before (l ∷ ls) fit s = elim (never_stored (l ∷ before) ls fit.1 s) [
     | inl here ↦ absurd (not_here l (fit.0, tt) here)
@@ -108,7 +108,7 @@ module _ {J : Type 0} (has_noted : J → History Entry → Type 0) (c : Settings
   pub ended : (s : ℕ) → s < length rows → EndAt c (regions_of lines) rows ends fit z shaped made are s
   ended = end_at c (regions_of lines) rows ends fit z shaped made are
 
-  module _ (held : HoldsSame q z) (counts : CountsGrow q z) (owed : (k : Key) → owes z k ≡ true → owes q k ≡ true) (unowed : (k : Key) → has_page z k ≡ true → owes z k ≡ false → IfSome (pagers.held z k) (λ bytes. kept z k ≡ Some bytes))
+  module _ (held : HoldsSame q z) (counts : CountsGrow q z) (owed : (k : Key) → owes z k ≡ true → owes q k ≡ true) (unowed : (k : Key) → has_key z k ≡ true → owes z k ≡ false → IfSome (pagers.held z k) (λ bytes. kept z k ≡ Some bytes))
       (tried : (s r : ℕ) → s < length q.stripes → r < length q.shapes → IsTried q z s r) (failed : Bool) (some_failed : failed ≡ true → (s : ℕ) × (r : ℕ) × (s < length q.stripes) × (r < length q.shapes) × RoseAt q z s r) (none_failed : failed ≡ false → (s r : ℕ) → s < length q.stripes → r < length q.shapes → IsKept z s r)
       (e : EndSeen) (text : e.text ≡ r1.text.items) (flag : e.faulted ≡ (r1.faulted || failed)) (count : e.loaded ≡ r1.loaded) (total : e.sum ≡ r1.sum) (text0 : r0.text.items ≡ []) (flag0 : r0.faulted ≡ false) (count0 : r0.loaded ≡ 0) (total0 : r0.sum ≡ 0) where
     q_stripes : length q.stripes ≡ c.layout.stripes
@@ -117,8 +117,8 @@ module _ {J : Type 0} (has_noted : J → History Entry → Type 0) (c : Settings
     q_shapes : length q.shapes ≡ length (regions_of lines)
     q_shapes = ap length ran.same.shapes ∙ ap length opens.shaped.shapes ∙ length-map (regions_of lines) (shape_of c.layout.page_size)
 
-    answers : AllAnswer (spread_of c.layout) (is_told rows) [] (contents_of rows) lines ran.replies × Shows (spread_of c.layout) (is_told rows) (behind [] lines) (left_by (contents_of rows) lines ran.replies) q
-    answers = ran.answered (is_told rows) (contents_of rows) opens.shows
+    answers : AllAnswer (spread_of c.layout) (region_is_told rows) [] (contents_of rows) lines ran.replies × Shows (spread_of c.layout) (region_is_told rows) (behind [] lines) (left_by (contents_of rows) lines ran.replies) q
+    answers = ran.answered (region_is_told rows) (contents_of rows) opens.shows
 
     module _ (s r : ℕ) (stripe : s < c.layout.stripes) (known : r < length (regions_of lines)) where
       last : (lane_at ends s r).count ≡ count_at z s r
@@ -136,10 +136,10 @@ module _ {J : Type 0} (has_noted : J → History Entry → Type 0) (c : Settings
         | inr kept_ ↦ kept_
       ]
 
-    holds_left : (r : ℕ) → r < length (regions_of lines) → is_told rows r ≡ true → HoldsRegion z r (bytes_at (left_by (contents_of rows) lines ran.replies) r)
+    holds_left : (r : ℕ) → r < length (regions_of lines) → region_is_told rows r ≡ true → HoldsRegion z r (bytes_at (left_by (contents_of rows) lines ran.replies) r)
     holds_left r known told = region_kept q z r (bytes_at (left_by (contents_of rows) lines ran.replies) r) same held (answers.1.holds r (omega (arith, known, q_shapes)) told)
 
-    ends_at : (r : ℕ) → r < length (regions_of lines) → is_told rows r ≡ true → ((s : ℕ) → s < length rows → IsKept z s r) → bytes_at (contents_of ends) r ≡ bytes_at (left_by (contents_of rows) lines ran.replies) r
+    ends_at : (r : ℕ) → r < length (regions_of lines) → region_is_told rows r ≡ true → ((s : ℕ) → s < length rows → IsKept z s r) → bytes_at (contents_of ends) r ≡ bytes_at (left_by (contents_of rows) lines ran.replies) r
     ends_at r known told keeps = region_end c (regions_of lines) rows ends fit z shaped made are r (bytes_at (left_by (contents_of rows) lines ran.replies) r) known (holds_left r known told) keeps
 
     -- nobody stores to a page of a region that may only be read, so its lane tells it
@@ -153,7 +153,7 @@ module _ {J : Type 0} (has_noted : J → History Entry → Type 0) (c : Settings
       failed = failed;
       text_is = text ∙ ran.text ∙ ap (λ (x : List ℕ). x ++ replies_text (regions_of lines) ran.replies) text0;
       answered = answers.0;
-      flag = flag ∙ ap (λ b. b || failed) (ran.faulted ∙ ap (λ b. b || list_any is_fault ran.replies) flag0);
+      flag = flag ∙ ap (λ b. b || failed) (ran.faulted ∙ ap (λ b. b || list_any is_fault_reply ran.replies) flag0);
       loaded_is = omega (arith, count, ran.loaded, count0);
       sum_is = omega (arith, total, ran.added, total0);
       counts = λ s r stripe known. counts_fit s r stripe known;

@@ -4,10 +4,10 @@ use Rattle.std.specs.Prelude.{sum_by}
 use Rattle.std.proofs.lemmas.List.Sums.{sum-map}
 use Rattle.page_base.specs.declared.keys.RegionShape.{RegionShape}
 use Rattle.workload_text.specs.Grammar.{Region}
-use Rattle.script_run.specs.Fits.{pages_of}
+use Rattle.script_run.specs.Fits.{page_counts}
 use Rattle.script_run.specs.InsideRunning.{shape_of}
 
-pub pages_of_shapes : (z : ℕ) (gs : List Region) → map (λ (s : RegionShape). s.pages) (map (shape_of z) gs) ≡ pages_of z gs
+pub pages_of_shapes : (z : ℕ) (gs : List Region) → map (λ (s : RegionShape). s.pages) (map (shape_of z) gs) ≡ page_counts z gs
 pages_of_shapes z [] = refl
 pages_of_shapes z (g ∷ gs) = ap (λ (ns : List ℕ). g.size / z ∷ ns) (pages_of_shapes z gs)
 

@@ -9,7 +9,7 @@ use Rattle.workload_text.specs.Line.{Line, map_line, script_line, load_line, sto
 use Rattle.workload_text.specs.Grammar.{size_at}
 use Rattle.workload_text.specs.Accepted.{regions_of}
 use Rattle.workload_text.specs.Built.{is_built}
-use Rattle.script_run.specs.Fits.{pages_of}
+use Rattle.script_run.specs.Fits.{page_counts}
 use Rattle.script_run.specs.Tables.{regions_seen, table_of}
 use Rattle.script_run.specs.InsideRanges.{IsListed}
 use Rattle.script_run.specs.InsideRunning.{shape_of}
@@ -50,9 +50,9 @@ shapes_are z (flush_line ∷ ls) h = absurd (cc)
 shapes_are z (unmap_line n ∷ ls) h = absurd (cc)
 
 -- a table has few pages, so its regions have
-pub few_of_table : (z : ℕ) (lines : List Line) → is_built lines ≡ true → page_count (table_of z lines) ≤ 1048576 → sum (pages_of z (regions_of lines)) ≤ 1048576
+pub few_of_table : (z : ℕ) (lines : List Line) → is_built lines ≡ true → page_count (table_of z lines) ≤ 1048576 → sum (page_counts z (regions_of lines)) ≤ 1048576
 few_of_table z lines built few =
-    let same : map (λ (s : RegionShape). s.pages) (shapes_of (table_of z lines)) ≡ pages_of z (regions_of lines) = ap (map (λ (s : RegionShape). s.pages)) (shapes_are z lines built) ∙ pages_of_shapes z (regions_of lines) in
+    let same : map (λ (s : RegionShape). s.pages) (shapes_of (table_of z lines)) ≡ page_counts z (regions_of lines) = ap (map (λ (s : RegionShape). s.pages)) (shapes_are z lines built) ∙ pages_of_shapes z (regions_of lines) in
     omega (arith, few, sum-map (λ (s : RegionShape). s.pages) (shapes_of (table_of z lines)), ap sum same)
 
 pub is_listed : {J : Type 0} (lines : List Line) (p : PagerSeen J) (table : TableSeen) (r off len : ℕ) → table ≡ table_of p.page_size lines → 0 < p.page_size → r < length (regions_of lines) → off + len ≤ size_at (regions_of lines) r → IsListed p table r off len

@@ -12,7 +12,7 @@ use Rattle.page_base.specs.ListSeen.{ListSeen}
 use Rattle.page_base.specs.Backings.{in_memory, in_file, in_files}
 use Rattle.page_base.specs.Lanes.{Origin, LaneSeen, has_page, told_at}
 use Rattle.page_base.specs.declared.layout.Layout.{Layout}
-use Rattle.store_trait.specs.Memory.{memory_origin, page_of}
+use Rattle.store_trait.specs.Memory.{memory_origin, page_bytes}
 use Rattle.store_trait.specs.MemLanes.{lane_seen, AreLanesOf}
 use Rattle.store_trait.specs.declared.mem_lane.MemLane.{MemLane}
 use Rattle.workload_text.specs.Line.{Line, map_line, script_line, load_line, store_line, prefetch_line, flush_line, unmap_line}
@@ -26,7 +26,7 @@ use Rattle.workload_text.specs.declared.workload.Command.TheVariants.{Load, Stor
 use Rattle.workload_text.specs.declared.workload.Script.{Script}
 use Rattle.workload_text.specs.declared.workload.Workload.{Workload}
 use Rattle.script_run.specs.Contents.{joined, contents_by, contents_of, page_told, rows_in, pages_in, origins_of, no_lane}
-use Rattle.script_run.specs.Fits.{FitLanes, has_whole_pages, pages_of, row_origins}
+use Rattle.script_run.specs.Fits.{FitLanes, has_whole_pages, page_counts, row_origins}
 use Rattle.script_run.specs.InsideZeros.{AreSmall, PutsLanes, AreZeroRows, zero_lane, zero_row}
 use Rattle.script_run.proofs.Contents.{joined-same}
 use Rattle.script_run.proofs.Openings.{item_at, origins_pages, sizes_small}
@@ -54,10 +54,10 @@ regions_of-maps (m ∷ ms) ls = ap (λ (gs : List Region). region m ∷ gs) (reg
 pub regions_are : (w : Workload) → regions_of (lines_of w) ≡ map region w.maps.items
 regions_are w = regions_of-maps w.maps.items (flat_map script_lines w.scripts.items) ∙ ap (λ (gs : List Region). map region w.maps.items ++ gs) (no_region_in_scripts w.scripts.items) ∙ append-nil (map region w.maps.items)
 
-pub joined-page_of : (size n : ℕ) (xs : List ℕ) → n * size ≤ length xs → joined n (page_of size xs) ≡ take (n * size) xs
+pub joined-page_of : (size n : ℕ) (xs : List ℕ) → n * size ≤ length xs → joined n (page_bytes size xs) ≡ take (n * size) xs
 joined-page_of size zero xs fits = let none : 0 * size ≡ 0 = omega arith in sym (ap (λ (k : ℕ). take k xs) none)
 joined-page_of size (suc n) xs fits =
-    ap (λ (ys : List ℕ). ys ++ page_of size xs n) (joined-page_of size n xs (omega arith))
+    ap (λ (ys : List ℕ). ys ++ page_bytes size xs n) (joined-page_of size n xs (omega arith))
     ∙ ap (λ (k : ℕ). take (n * size) xs ++ take k (drop (n * size) xs)) (add-sub_cancel_left (n * size) size)
     ∙ take_take_drop (n * size) size xs (omega arith)
     ∙ ap (λ (k : ℕ). take k xs) (omega arith)
@@ -124,7 +124,7 @@ rows_more z n i gs g lanes old new below is are rows puts = record {
       ∙ ap (zero_row z n s 0) (ap (λ (x : Region). take i gs ++ x ∷ []) is ∙ sym (take_more gs i g below));
 }
 
-zero_row-origins : (z n s k : ℕ) (gs : List Region) → map (λ (l : LaneSeen). l.origin) (zero_row z n s k gs) ≡ map (λ (e : ℕ × ℕ). memory_origin e.0 e.1 z n s) (enumerate_from k (pages_of z gs))
+zero_row-origins : (z n s k : ℕ) (gs : List Region) → map (λ (l : LaneSeen). l.origin) (zero_row z n s k gs) ≡ map (λ (e : ℕ × ℕ). memory_origin e.0 e.1 z n s) (enumerate_from k (page_counts z gs))
 zero_row-origins z n s k [] = refl
 zero_row-origins z n s k (g ∷ gs) = ap (λ (os : List Origin). memory_origin k (g.size / z) z n s ∷ os) (zero_row-origins z n s (k + 1) gs)
 
@@ -135,23 +135,23 @@ zero_row-at z n s k (suc r) (x ∷ gs) g below =
     let e : k + 1 + r ≡ k + suc r = omega arith in
     zero_row-at z n s (k + 1) r gs g (omega arith) ∙ ap (λ (q : ℕ). zero_lane z n s q (get_or gs r g)) e
 
-zeros_from : (k : ℕ) (gs : List Region) (z : ℕ) (page : ℕ → ℕ → List ℕ) → has_whole_pages z gs ≡ true → ((r p : ℕ) (g : Region) → r < length gs → get_or gs r g ≡ g → p < g.size / z → page (k + r) p ≡ page_of z (replicate g.size 0) p) → map (λ (e : ℕ × ℕ). joined e.1 (page e.0)) (enumerate_from k (pages_of z gs)) ≡ map (λ (g : Region). replicate g.size 0) gs
+zeros_from : (k : ℕ) (gs : List Region) (z : ℕ) (page : ℕ → ℕ → List ℕ) → has_whole_pages z gs ≡ true → ((r p : ℕ) (g : Region) → r < length gs → get_or gs r g ≡ g → p < g.size / z → page (k + r) p ≡ page_bytes z (replicate g.size 0) p) → map (λ (e : ℕ × ℕ). joined e.1 (page e.0)) (enumerate_from k (page_counts z gs)) ≡ map (λ (g : Region). replicate g.size 0) gs
 zeros_from k [] z page pages told = refl
 zeros_from k (g ∷ gs) z page pages told =
     let p = and_parts (eqb (g.size % z) 0) (has_whole_pages z gs) pages in
     let whole : g.size ≡ g.size / z * z = omega (arith, div-add-mod' g.size z, eqb-true (g.size % z) 0 p.0) in
     let len : length {A = ℕ} (replicate g.size 0) ≡ g.size = length-replicate g.size 0 in
     let first : joined (g.size / z) (page k) ≡ replicate g.size 0 =
-    joined-same (g.size / z) (page_of z (replicate g.size 0)) (page k) (λ q below. ap (λ (r : ℕ). page r q) (omega arith) ∙ told 0 q g (omega arith) refl below)
+    joined-same (g.size / z) (page_bytes z (replicate g.size 0)) (page k) (λ q below. ap (λ (r : ℕ). page r q) (omega arith) ∙ told 0 q g (omega arith) refl below)
     ∙ joined-page_of z (g.size / z) (replicate g.size 0) (omega (arith, len, whole))
     ∙ ap (λ (m : ℕ). take m (replicate g.size 0)) (sym whole)
     ∙ take_all g.size (replicate g.size 0) (omega (arith, len)) in
     let rest = zeros_from (k + 1) gs z page p.1 (λ r q h below e inside. ap (λ (m : ℕ). page m q) (omega arith) ∙ told (suc r) q h (omega arith) e inside) in
-    ap (λ (xs : List ℕ). xs ∷ map (λ (e : ℕ × ℕ). joined e.1 (page e.0)) (enumerate_from (k + 1) (pages_of z gs))) first
+    ap (λ (xs : List ℕ). xs ∷ map (λ (e : ℕ × ℕ). joined e.1 (page e.0)) (enumerate_from (k + 1) (page_counts z gs))) first
     ∙ ap (λ (xs : List (List ℕ)). replicate g.size 0 ∷ xs) rest
 
 module _ (layout : Layout) (gs : List Region) (rows : List (List LaneSeen)) (pages : has_whole_pages layout.page_size gs ≡ true) (are : AreZeroRows layout.page_size layout.stripes gs rows) where
-  origins_are : (s : ℕ) → s < length rows → get_or (origins_of rows) s [] ≡ row_origins layout.page_size layout.stripes s (pages_of layout.page_size gs)
+  origins_are : (s : ℕ) → s < length rows → get_or (origins_of rows) s [] ≡ row_origins layout.page_size layout.stripes s (page_counts layout.page_size gs)
   origins_are s below =
       get_or-map (λ (row : List LaneSeen). map (λ (l : LaneSeen). l.origin) row) rows s [] [] below
       ∙ ap (λ (row : List LaneSeen). map (λ (l : LaneSeen). l.origin) row) (are.each s (omega (arith, are.count)))
@@ -161,16 +161,16 @@ module _ (layout : Layout) (gs : List Region) (rows : List (List LaneSeen)) (pag
   zeros_fit = record {
     stripes = are.count;
     whole = pages;
-    lanes = λ s below. origins_are s below ∙ ap (λ (n : ℕ). row_origins layout.page_size n s (pages_of layout.page_size gs)) (sym are.count);
+    lanes = λ s below. origins_are s below ∙ ap (λ (n : ℕ). row_origins layout.page_size n s (page_counts layout.page_size gs)) (sym are.count);
   }
 
   some_row : 0 < length rows
   some_row = omega (arith, are.count, layout.some_stripe)
 
-  pages_are : pages_in rows ≡ pages_of layout.page_size gs
-  pages_are = ap (λ (os : List Origin). map (λ (o : Origin). o.pages) os) (origins_are 0 some_row) ∙ origins_pages 0 layout.page_size layout.stripes 0 (pages_of layout.page_size gs)
+  pages_are : pages_in rows ≡ page_counts layout.page_size gs
+  pages_are = ap (λ (os : List Origin). map (λ (o : Origin). o.pages) os) (origins_are 0 some_row) ∙ origins_pages 0 layout.page_size layout.stripes 0 (page_counts layout.page_size gs)
 
-  told_are : (r p : ℕ) (g : Region) → r < length gs → get_or gs r g ≡ g → p < g.size / layout.page_size → page_told rows (0 + r) p ≡ page_of layout.page_size (replicate g.size 0) p
+  told_are : (r p : ℕ) (g : Region) → r < length gs → get_or gs r g ≡ g → p < g.size / layout.page_size → page_told rows (0 + r) p ≡ page_bytes layout.page_size (replicate g.size 0) p
   told_are r p g below is inside =
       let s : ℕ = (0 + r + p) % length rows in
       let there : s < length rows = mod_below (0 + r + p) (length rows) some_row in
@@ -182,7 +182,7 @@ module _ (layout : Layout) (gs : List Region) (rows : List (List LaneSeen)) (pag
       ∙ zero_row-at layout.page_size layout.stripes s 0 r gs g below
       ∙ ap (zero_lane layout.page_size layout.stripes s (0 + r)) is in
       ap (λ (l : LaneSeen). unwrap_or (told_at l.told p) []) lane
-      ∙ ap (λ (t : Option (List ℕ)). unwrap_or t []) (told_of_page o (page_of layout.page_size (replicate g.size 0)) p has)
+      ∙ ap (λ (t : Option (List ℕ)). unwrap_or t []) (told_of_page o (page_bytes layout.page_size (replicate g.size 0)) p has)
 
   pub zeros_are : contents_of rows ≡ map (λ (g : Region). replicate g.size 0) gs
   zeros_are = ap (λ (ps : List ℕ). contents_by ps (page_told rows)) pages_are ∙ zeros_from 0 gs layout.page_size (page_told rows) pages told_are

@@ -16,8 +16,8 @@ abbrev pub has_whole_pages : (page_size : ℕ) → List Region → Bool
 has_whole_pages page_size regions = list_all (λ (g : Region). g.size % page_size == 0) regions
 
 -- the pages of each region
-abbrev pub pages_of : (page_size : ℕ) → List Region → List ℕ
-pages_of page_size regions = map (λ (g : Region). g.size / page_size) regions
+abbrev pub page_counts : (page_size : ℕ) → List Region → List ℕ
+page_counts page_size regions = map (λ (g : Region). g.size / page_size) regions
 
 -- the lanes of one stripe, one for each region in order
 abbrev pub row_origins : (page_size stripes stripe : ℕ) → (pages : List ℕ) → List Origin
@@ -28,7 +28,7 @@ row_origins page_size stripes stripe pages =
 pub record FitLanes (layout : Layout) (regions : List Region) (rows : List (List LaneSeen)) : Type 0 where
   pub stripes : length rows ≡ layout.stripes
   pub whole : has_whole_pages layout.page_size regions ≡ true
-  pub lanes : (s : ℕ) → s < length rows → slice_index_or (origins_of rows) s [] ≡ row_origins layout.page_size (length rows) s (pages_of layout.page_size regions)
+  pub lanes : (s : ℕ) → s < length rows → slice_index_or (origins_of rows) s [] ≡ row_origins layout.page_size (length rows) s (page_counts layout.page_size regions)
 
 -- the lanes go with the settings' layout and with the regions of these lines
 abbrev pub LanesFit : Settings → List Line → (rows : List (List LaneSeen)) → Type 0

@@ -14,13 +14,13 @@ use Rattle.workload_text.specs.declared.workload.Workload.{Workload}
 use Rattle.script_run.specs.Serial.{bytes_at, serial_text, serial_end}
 use Rattle.script_run.specs.Contents.{contents_of, rows_in}
 use Rattle.script_run.specs.Fits.{FitLanes}
-use Rattle.script_run.specs.FitsSerial.{Spread, spread_of, is_told, EndSeen, FitsSerial}
-use Rattle.script_run.specs.RegionRules.{region_seen}
+use Rattle.script_run.specs.FitsSerial.{Spread, spread_of, region_is_told, EndSeen, FitsSerial}
+use Rattle.script_run.specs.RegionRules.{named_region}
 use Rattle.script_run.specs.Tables.{regions_seen}
 
 -- the lanes tell every region
 abbrev pub AllTold : List (List LaneSeen) → Type 0
-AllTold rows = (r : ℕ) → is_told rows r ≡ true
+AllTold rows = (r : ℕ) → region_is_told rows r ≡ true
 
 -- the text and the contents of the serial meaning
 pub record IsSerial (lines : List Line) (rows ends : List (List LaneSeen)) (text : List ℕ) : Type 0 where
@@ -44,5 +44,5 @@ MemoryRunsAreSerial =
 -- the regions of a workload's lines are those of its `map` lines, by both views of them, and each stands on a line
 pub record RegionsAreMaps : Type 0 where
   pub regions : (w : Workload) → regions_of (lines_of w) ≡ map region w.maps.items
-  pub seen : (w : Workload) → regions_seen (lines_of w) ≡ map region_seen w.maps.items
+  pub seen : (w : Workload) → regions_seen (lines_of w) ≡ map named_region w.maps.items
   pub numbered : (n : ℕ) (texts : List TextLine) → length (map_numbers n texts) ≡ length (regions_seen (lines_in texts))

@@ -11,7 +11,7 @@ use Rattle.workload_text.specs.Grammar.{writable_at}
 use Rattle.workload_text.specs.Accepted.{regions_of}
 use Rattle.script_run.specs.Serial.{bytes_at, stored}
 use Rattle.script_run.specs.Contents.{no_lane, pages_in, contents_of}
-use Rattle.script_run.specs.Replies.{Reply, nothing, begun, loaded, ok, fault, replies_text, is_fault, bytes_shown}
+use Rattle.script_run.specs.Replies.{Reply, nothing, begun, loaded, ok, fault, replies_text, is_fault_reply, bytes_shown}
 
 -- how pages are spread: their size, and how many stripes they go round
 pub record Spread : Type 0 where
@@ -29,8 +29,8 @@ abbrev pub lane_at : List (List LaneSeen) → (stripe region : ℕ) → LaneSeen
 lane_at rows stripe region = slice_index_or (slice_index_or rows stripe []) region no_lane
 
 -- the lanes tell each page of the region
-abbrev pub is_told : List (List LaneSeen) → (region : ℕ) → Bool
-is_told rows region =
+abbrev pub region_is_told : List (List LaneSeen) → (region : ℕ) → Bool
+region_is_told rows region =
     list_all (λ page. is_some (told_at (lane_at rows (stripe_of (length rows) 1 region page) region).told page)) (range_with_len 0 (slice_index_or (pages_in rows) region 0))
 
 -- ---- which page a fault may name
@@ -41,9 +41,9 @@ StoresTo page_size k (store_line r off bytes) = (k.region ≡ r) × (off < k.pag
 StoresTo page_size k l = ⊥
 
 -- one of these lines does
-abbrev pub IsStored : (page_size : ℕ) → List Line → Key → Type 0
-IsStored page_size [] k = ⊥
-IsStored page_size (l ∷ ls) k = StoresTo page_size k l ⊎ IsStored page_size ls k
+abbrev pub AnyStoresTo : (page_size : ℕ) → List Line → Key → Type 0
+AnyStoresTo page_size [] k = ⊥
+AnyStoresTo page_size (l ∷ ls) k = StoresTo page_size k l ⊎ AnyStoresTo page_size ls k
 
 -- a fault ends a range of `len` bytes from `off` on at the piece that begins behind `done` of them
 pub record EndsAt (page_size off len done : ℕ) : Type 0 where
@@ -57,7 +57,7 @@ piece_key page_size region at = record { region = region; page = at / page_size 
 abbrev pub Names : Spread → List Line → (region at : ℕ) → Key → Type 0
 Names t lines region at k =
     (k ≡ piece_key t.page_size region at)
-    ⊎ ((stripe_in t k ≡ stripe_in t (piece_key t.page_size region at)) × IsStored t.page_size lines k)
+    ⊎ ((stripe_in t k ≡ stripe_in t (piece_key t.page_size region at)) × AnyStoresTo t.page_size lines k)
 
 -- ---- one line, and all lines
 
@@ -89,12 +89,12 @@ left_by regions ls replies = regions
 -- ---- counts
 
 -- the count that a reply names for a lane, if it names one
-abbrev pub count_in : Spread → (stripe region : ℕ) → Reply → List ℕ
-count_in t stripe region (fault k count done) = if stripe_in t k == stripe && k.region == region then count ∷ [] else []
-count_in t stripe region reply = []
+abbrev pub fault_count_in : Spread → (stripe region : ℕ) → Reply → List ℕ
+fault_count_in t stripe region (fault k count done) = if stripe_in t k == stripe && k.region == region then count ∷ [] else []
+fault_count_in t stripe region reply = []
 
 abbrev pub counts_named : Spread → (stripe region : ℕ) → List Reply → List ℕ
-counts_named t stripe region replies = flat_map (count_in t stripe region) replies
+counts_named t stripe region replies = flat_map (fault_count_in t stripe region) replies
 
 -- each count is above the one before it, or stands at the last value that it can show
 abbrev pub Rising : ℕ → List ℕ → Type 0
@@ -130,8 +130,8 @@ pub record FitsSerial (t : Spread) (lines : List Line) (rows ends : List (List L
   pub replies : List Reply
   pub failed : Bool  -- one of the last writes, which no line asks for
   pub text_is : e.text ≡ replies_text (regions_of lines) replies
-  pub answered : AllAnswer t (is_told rows) [] (contents_of rows) lines replies
-  pub flag : e.faulted ≡ (list_any is_fault replies || failed)
+  pub answered : AllAnswer t (region_is_told rows) [] (contents_of rows) lines replies
+  pub flag : e.faulted ≡ (list_any is_fault_reply replies || failed)
   pub loaded_is : e.loaded ≡ length (flat_map bytes_shown replies)
   pub sum_is : e.sum ≡ sum (flat_map bytes_shown replies)
   pub counts : (s r : ℕ) → s < t.stripes → r < length (regions_of lines)
@@ -139,11 +139,11 @@ pub record FitsSerial (t : Spread) (lines : List Line) (rows ends : List (List L
   -- where a last write failed, some lane's count rose above all that was named
   pub rose : failed ≡ true → (s r : ℕ) × (s < t.stripes) × (r < length (regions_of lines)) × Rose (last_count (lane_at rows s r).count (counts_named t s r replies)) (lane_at ends s r).count
   -- a region of which no lane had a fault but those named holds what the lines left
-  pub holds : (r : ℕ) → r < length (regions_of lines) → is_told rows r ≡ true
+  pub holds : (r : ℕ) → r < length (regions_of lines) → region_is_told rows r ≡ true
       → ((s : ℕ) → s < t.stripes → NoMore (lane_at rows s r).count (counts_named t s r replies) (lane_at ends s r).count)
       → bytes_at (contents_of ends) r ≡ bytes_at (left_by (contents_of rows) lines replies) r
   -- and where no last write failed, every region does
-  pub whole : failed ≡ false → (r : ℕ) → r < length (regions_of lines) → is_told rows r ≡ true
+  pub whole : failed ≡ false → (r : ℕ) → r < length (regions_of lines) → region_is_told rows r ≡ true
       → bytes_at (contents_of ends) r ≡ bytes_at (left_by (contents_of rows) lines replies) r
-  pub read_only : (r : ℕ) → r < length (regions_of lines) → writable_at (regions_of lines) r ≡ false → is_told rows r ≡ true
+  pub read_only : (r : ℕ) → r < length (regions_of lines) → writable_at (regions_of lines) r ≡ false → region_is_told rows r ≡ true
       → bytes_at (contents_of ends) r ≡ bytes_at (contents_of rows) r

@@ -7,9 +7,9 @@ use Rattle.page_model.specs.declared.entry.Entry.{Entry}
 use Rattle.page_model.specs.Setups.{pages_of}
 use Rattle.page_base.specs.declared.keys.Piece.{Piece}
 use Rattle.region_table.specs.Regions.{TableSeen, lengths_of}
-use Rattle.store_trait.specs.Memory.{page_of}
+use Rattle.store_trait.specs.Memory.{page_bytes}
 use Rattle.serial_pager.specs.declared.fault.PageFault.{PageFault}
-use Rattle.serial_pager.specs.Pagers.{PagerSeen, has_page, stripe_at, held, owes, count_at, IsSame, CountsGrow, WentAll}
+use Rattle.serial_pager.specs.Pagers.{PagerSeen, has_key, stripe_at, held, owes, count_at, IsSame, CountsGrow, WentAll}
 use Rattle.script_run.specs.FitsSerial.{StoresTo, EndsAt, piece_key}
 use Rattle.script_run.specs.LineEntries.{Fails, MakesInOrder}
 use Rattle.page_base.specs.ListSeen.{spliced}
@@ -18,8 +18,8 @@ use Rattle.page_model.specs.Pieces.{AreBefore, accesses_by, loads, saves}
 use Rattle.region_table.specs.Pieces.{pieces_of}
 use Rattle.workload_text.specs.Line.{store_line}
 
-abbrev pub key_of : (region page : ℕ) → Key
-key_of region page = record { region = region; page = page }
+abbrev pub range_key : (region page : ℕ) → Key
+range_key region page = record { region = region; page = page }
 
 module _ {J : Type 0} where
   abbrev pub pages_at : PagerSeen J → (region : ℕ) → ℕ
@@ -34,7 +34,7 @@ module _ {J : Type 0} where
   -- the region's pages hold these bytes, one page after another
   pub record HoldsRegion (p : PagerSeen J) (region : ℕ) (bytes : List ℕ) : Type 0 where
     pub whole : length bytes ≡ pages_at p region * p.page_size
-    pub each : (page : ℕ) → page < pages_at p region → held p (key_of region page) ≡ Some (page_of p.page_size bytes page)
+    pub each : (page : ℕ) → page < pages_at p region → held p (range_key region page) ≡ Some (page_bytes p.page_size bytes page)
 
   -- the table has the range's region, with pages of the pager's size
   pub record IsListed (p : PagerSeen J) (table : TableSeen) (region off len : ℕ) : Type 0 where
@@ -44,7 +44,7 @@ module _ {J : Type 0} where
     pub ends : off + len ≤ slice_index (lengths_of table) region
 
   -- what no access changes, and no more pieces than bytes
-  pub record GoesOn (len : ℕ) (old new : PagerSeen J) : Type 0 where
+  pub record RangeGoesOn (len : ℕ) (old new : PagerSeen J) : Type 0 where
     pub same : IsSame old new
     pub spent : new.spent ≤ old.spent + len
     pub counts : CountsGrow old new
@@ -52,7 +52,7 @@ module _ {J : Type 0} where
   -- the access ended at a piece with this fault; a page that the fault names may have had to be written, or was stored to
   pub record FaultsAt (old new : PagerSeen J) (region off len : ℕ) (stores : Key → Type 0) (done : ℕ) (f : PageFault) : Type 0 where
     pub ends : EndsAt old.page_size off len done
-    pub page : has_page old f.key ≡ true
+    pub page : has_key old f.key ≡ true
     pub stripe : stripe_at old f.key ≡ stripe_at old (piece_key old.page_size region (off + done))
     pub whose : (f.key ≡ piece_key old.page_size region (off + done)) ⊎ ((owes old f.key ≡ true) ⊎ stores f.key)
     pub rose : Rose (count_at old (stripe_at old f.key) f.key.region) f.faults

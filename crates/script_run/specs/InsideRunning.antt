@@ -25,8 +25,8 @@ use Rattle.script_run.specs.Contents.{contents_of}
 use Rattle.script_run.specs.Fits.{FitLanes, AreInRange}
 use Rattle.script_run.specs.Tables.{table_of}
 use Rattle.script_run.specs.InsideRooms.{rooms}
-use Rattle.script_run.specs.Replies.{Reply, replies_text, is_fault, bytes_shown}
-use Rattle.script_run.specs.FitsSerial.{Spread, spread_of, is_told, lane_at, IsStored, AllAnswer, left_by, counts_named, CountsFit}
+use Rattle.script_run.specs.Replies.{Reply, replies_text, is_fault_reply, bytes_shown}
+use Rattle.script_run.specs.FitsSerial.{Spread, spread_of, region_is_told, lane_at, AnyStoresTo, AllAnswer, left_by, counts_named, CountsFit}
 use Rattle.script_run.specs.FitsJournals.{setup_at}
 use Rattle.script_run.specs.LineEntries.{AllMake}
 use Rattle.script_run.specs.InsideRanges.{pages_at, HoldsRegion}
@@ -64,7 +64,7 @@ module _ {J : Type 0} where
   pub record Shows (t : Spread) (told : ℕ → Bool) (lines : List Line) (regions : List (List ℕ)) (p : PagerSeen J) : Type 0 where
     pub count : length regions ≡ length p.shapes
     pub holds : (r : ℕ) → r < length p.shapes → told r ≡ true → HoldsRegion p r (bytes_at regions r)
-    pub owed : (k : Key) → owes p k ≡ true → IsStored t.page_size lines k
+    pub owed : (k : Key) → owes p k ≡ true → AnyStoresTo t.page_size lines k
 
   -- the lines ran, behind others
   pub record Ran (has_noted : J → History Entry → Type 0) (t : Spread) (gs : List Region) (before lines : List Line) (old new : Replies) (p q : PagerSeen J) : Type 0 where
@@ -74,7 +74,7 @@ module _ {J : Type 0} where
     pub loaded : new.loaded ≡ old.loaded + length (flat_map bytes_shown replies)
     pub added : new.sum ≡ old.sum + sum (flat_map bytes_shown replies)
     pub within : length (flat_map bytes_shown replies) ≤ loaded_bytes lines
-    pub faulted : new.faulted ≡ (old.faulted || list_any is_fault replies)
+    pub faulted : new.faulted ≡ (old.faulted || list_any is_fault_reply replies)
     pub answered : (told : ℕ → Bool) (regions : List (List ℕ)) → Shows t told before regions p → AllAnswer t told before regions lines replies × Shows t told (behind before lines) (left_by regions lines replies) q
     pub counts : (s r : ℕ) → CountsFit (count_at p s r) (counts_named t s r replies) (count_at q s r)
     pub same : IsSame p q
@@ -98,7 +98,7 @@ module _ {J : Type 0} where
     pub shaped : IsShaped (spread_of c.layout) gs p
     pub spent : p.spent ≡ 0
     pub stands : (s : ℕ) (core : Core) → core_at p s ≡ Some core → StandsFor [] core
-    pub shows : Shows (spread_of c.layout) (is_told rows) [] (contents_of rows) p
+    pub shows : Shows (spread_of c.layout) (region_is_told rows) [] (contents_of rows) p
     pub counts : (s r : ℕ) → s < c.layout.stripes → count_at p s r ≡ (lane_at rows s r).count
     pub made : (s : ℕ) → s < c.layout.stripes → pagers.setup_at p s ≡ Some (setup_at c p.shapes rows s)
     pub journals_are : map (λ (x : StripeSeen J). x.journal) p.stripes ≡ journals

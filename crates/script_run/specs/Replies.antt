@@ -33,9 +33,9 @@ reply_text regions spent = codes "spent\n"
 abbrev pub replies_text : List Region → List Reply → List ℕ
 replies_text regions replies = flat_map (reply_text regions) replies
 
-abbrev pub is_fault : Reply → Bool
-is_fault (fault key count done) = true
-is_fault reply = false
+abbrev pub is_fault_reply : Reply → Bool
+is_fault_reply (fault key count done) = true
+is_fault_reply reply = false
 
 -- the bytes that a reply shows as loaded
 abbrev pub bytes_shown : Reply → List ℕ

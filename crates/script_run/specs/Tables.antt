@@ -1,10 +1,10 @@
 -- The table of a workload's regions.
 use Rattle.std.specs.Prelude.{ℕ, List, [], ◌∷◌}
 use Rattle.workload_text.specs.Line.{Line, map_line}
-use Rattle.region_table.specs.Regions.{RegionSeen, TableSeen}
+use Rattle.region_table.specs.Regions.{NamedRegion, TableSeen}
 
 -- the regions of the `map` lines, in order, as the table of regions sees them
-abbrev pub regions_seen : List Line → List RegionSeen
+abbrev pub regions_seen : List Line → List NamedRegion
 regions_seen [] = []
 regions_seen (map_line name backing size writable ∷ ls) = record { name = name; backing = backing; size = size; writable = writable } ∷ regions_seen ls
 regions_seen (l ∷ ls) = regions_seen ls

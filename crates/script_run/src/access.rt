@@ -1,8 +1,8 @@
 //! Loads and stores of ranges, piece by piece.
 ghost use Rattle.std.specs.Prelude.{◌≡◌, ◌≢◌, true, length, OnOk, IfErr};
 ghost use Rattle.page_base.specs.declared.keys.Key.{Key};
-ghost use Rattle.serial_pager.specs.Pagers.{has_page, held, owes, is_writable, HoldsSame, journals_made};
-ghost use Rattle.script_run.specs.InsideRanges.{IsRange, IsListed, GoesOn, AreBytesOf, LoadsRange, LoadBreaks, OwesByStore, WritesOver, SavesRange, StoreBreaks};
+ghost use Rattle.serial_pager.specs.Pagers.{has_key, held, owes, is_writable, HoldsSame, journals_made};
+ghost use Rattle.script_run.specs.InsideRanges.{IsRange, IsListed, RangeGoesOn, AreBytesOf, LoadsRange, LoadBreaks, OwesByStore, WritesOver, SavesRange, StoreBreaks};
 
 use page_model::Journal;
 use page_model::laws::accesses_by_piece;
@@ -21,7 +21,7 @@ pub(crate) fn load<S: Store, J: Journal>(
 ) -> Result<(), PageFault>
     requires range { IsRange pager.old region off (length buf.old) }
     requires listed { IsListed pager.old table.now region off (length buf.old) }
-    ensures goes { GoesOn (length buf.old) pager.old pager.new }
+    ensures goes { RangeGoesOn (length buf.old) pager.old pager.new }
     ensures journals { journals_made J.made_with pager.new ≡ journals_made J.made_with pager.old }
     ensures held { HoldsSame pager.old pager.new }
     ensures owes { (k : Key) → owes pager.new k ≡ true → owes pager.old k ≡ true }
@@ -54,9 +54,9 @@ pub(crate) fn store<S: Store, J: Journal>(
     requires range { IsRange pager.old region off (length bytes.now) }
     requires listed { IsListed pager.old table.now region off (length bytes.now) }
     requires writable { is_writable pager.old region ≡ true }
-    ensures goes { GoesOn (length bytes.now) pager.old pager.new }
+    ensures goes { RangeGoesOn (length bytes.now) pager.old pager.new }
     ensures journals { journals_made J.made_with pager.new ≡ journals_made J.made_with pager.old }
-    ensures others { (k : Key) → has_page pager.old k ≡ true → k.region ≢ region → held pager.new k ≡ held pager.old k }
+    ensures others { (k : Key) → has_key pager.old k ≡ true → k.region ≢ region → held pager.new k ≡ held pager.old k }
     ensures owes { OwesByStore region off bytes.now pager.old pager.new }
     ensures done { OnOk result (WritesOver region off bytes.now pager.old pager.new) }
     ensures made { OnOk result (SavesRange J.has_noted region off bytes.now pager.old pager.new) }

@@ -5,11 +5,11 @@
 ghost use Rattle.std.specs.Prelude.{◌≡◌, ◌≤◌, true, map, length, IfOk, OnOk, IfErr, Some, None};
 ghost use Rattle.page_base.specs.Layouts.{is_page_size};
 ghost use Rattle.page_base.specs.declared.limits.TheConstants.{MOST_REGIONS};
-ghost use Rattle.region_table.specs.Regions.{seen_of, backing_of};
+ghost use Rattle.region_table.specs.Regions.{named_by, backing_of};
 ghost use Rattle.workload_text.specs.View.{backing_of as backing_of_line, region};
 ghost use Rattle.script_run.specs.Fits.{has_whole_pages};
 ghost use Rattle.script_run.specs.declared.regions.TableFault.TheVariants as fault;
-ghost use Rattle.script_run.specs.RegionRules.{region_seen, rule, maps_refusal, IfRegionRefused};
+ghost use Rattle.script_run.specs.RegionRules.{named_region, rule, maps_refusal, IfRegionRefused};
 
 use page_base::{Bytes, OutOfMemory};
 use region_table::{Kind, RegionFault, RegionSpec, RegionTable};
@@ -69,7 +69,7 @@ fn kind_of(alloc: Global, store: &StoreKind) -> Result<Kind, OutOfMemory>
 
 /// The region that a `map` line asks for.
 fn spec_of(alloc: Global, map: &MapLine) -> Result<RegionSpec, OutOfMemory>
-    ensures { IfOk result (λ s. seen_of s ≡ region_seen map.now) }
+    ensures { IfOk result (λ s. named_by s ≡ named_region map.now) }
 {
     Ok(RegionSpec {
         name: Bytes::from_slice(alloc, map.name.as_slice())?,
@@ -103,7 +103,7 @@ pub fn table_of_maps(
     requires page_size { is_page_size page_size ≡ true }
     requires few { length maps.now ≤ MOST_REGIONS }
     requires as_many { length lines.now ≡ length maps.now }
-    ensures table { IfOk result (λ t. t ≡ record { page_size = page_size; regions = map region_seen maps.now }) }
+    ensures table { IfOk result (λ t. t ≡ record { page_size = page_size; regions = map named_region maps.now }) }
     ensures accepted { OnOk result (maps_refusal page_size maps.now lines.now ≡ None) }
     ensures whole { OnOk result (has_whole_pages page_size (map region maps.now) ≡ true) }
     ensures refused { IfErr result (λ f. IfRegionRefused f (λ r. maps_refusal page_size maps.now lines.now ≡ Some r)) }

@@ -12,7 +12,7 @@ use Rattle.page_model.specs.Setups.{Setup, regions}
 use Rattle.serial_pager.specs.Seen.{StripeSeen}
 use Rattle.serial_pager.specs.Holdings as one
 use Rattle.serial_pager.specs.Writings as one_writing
-use Rattle.serial_pager.specs.Pagers.{PagerSeen, group_in, core_in, held_in, kept_in, owes_in, count_in, core_at, page_in, has_page, stripe_at, owes, count_at, IsSame, HoldsSame, CountsGrow, RoseAt, IsKept, IsTried}
+use Rattle.serial_pager.specs.Pagers.{PagerSeen, group_in, core_in, held_in, kept_in, owes_in, count_in, core_at, region_has_page, has_key, stripe_at, owes, count_at, IsSame, HoldsSame, CountsGrow, RoseAt, IsKept, IsTried}
 use Rattle.serial_pager.specs.InsideSound.{IsSound, Flushes, SomeRose}
 use Rattle.serial_pager.proofs.Kept.{kept_where_told}
 use Rattle.serial_pager.proofs.Stripes.{stripe_of_pages}
@@ -44,8 +44,8 @@ module _ {J : Type 0} (old new : PagerSeen J) (sound : IsSound old) (many : leng
       ap (λ n. stripe_of n (group_in (slice_get new.shapes k.region)) k.region k.page) many
       ∙ ap (λ (ss : List RegionShape). stripe_of (length old.stripes) (group_in (slice_get ss k.region)) k.region k.page) shapes
 
-  same_page : (k : Key) → has_page new k ≡ has_page old k
-  same_page k = ap (λ (ss : List RegionShape). page_in (slice_get ss k.region) k.page) shapes
+  same_page : (k : Key) → has_key new k ≡ has_key old k
+  same_page k = ap (λ (ss : List RegionShape). region_has_page (slice_get ss k.region) k.page) shapes
 
   pub same : IsSame old new
   same = record {

@@ -4,7 +4,7 @@ use Rattle.page_base.specs.declared.keys.Key.{Key}
 use Rattle.page_base.specs.declared.keys.RegionShape.{RegionShape}
 use Rattle.page_base.specs.Lanes.{LaneSeen}
 use Rattle.page_model.specs.Core.{Core, LanePlace, RegionSeen, closes, is_home_place, place_passes}
-use Rattle.page_model.specs.Setups.{base_of, count_by, first_count, told_by}
+use Rattle.page_model.specs.Setups.{base_of, count_by, first_count, told_in}
 use Rattle.page_model.specs.Steps.{fresh_regions}
 use Rattle.stripe_core.specs.declared.config.StripeConfig.{StripeConfig}
 use Rattle.stripe_core.specs.Configs.{setup_of, CanMake}
@@ -23,7 +23,7 @@ fresh_open (shape ∷ shapes) [] r = refl
 fresh_open (shape ∷ shapes) (lane ∷ lanes) zero = refl
 fresh_open (shape ∷ shapes) (lane ∷ lanes) (suc r) = fresh_open shapes lanes r
 
-fresh_told : (shapes : List RegionShape) (lanes : List LaneSeen) (r p : ℕ) → length lanes ≡ length shapes → told_by_region (slice_get (fresh_regions shapes lanes) r) p ≡ told_by (slice_get lanes r) p
+fresh_told : (shapes : List RegionShape) (lanes : List LaneSeen) (r p : ℕ) → length lanes ≡ length shapes → told_by_region (slice_get (fresh_regions shapes lanes) r) p ≡ told_in (slice_get lanes r) p
 fresh_told [] [] r p e = refl
 fresh_told [] (lane ∷ lanes) r p e = absurd (omega arith)
 fresh_told (shape ∷ shapes) [] r p e = absurd (omega arith)
@@ -62,7 +62,7 @@ as_told (Some b) = refl
 
 pub fresh_held : (c : Core) → IsFresh c → (k : Key) → held c k ≡ base_of c.setup k
 fresh_held c f k = subst (λ (x : Core). held x k ≡ base_of x.setup k) (sym f.is)
-    (ap (λ o. cond (is_some (told_by (slice_get f.lanes k.region) k.page)) o None) (fresh_told f.config.shapes.items f.lanes k.region k.page f.can.lane_count) ∙ as_told (told_by (slice_get f.lanes k.region) k.page))
+    (ap (λ o. cond (is_some (told_in (slice_get f.lanes k.region) k.page)) o None) (fresh_told f.config.shapes.items f.lanes k.region k.page f.can.lane_count) ∙ as_told (told_in (slice_get f.lanes k.region) k.page))
 
 pub fresh_counts : (c : Core) → IsFresh c → (r : ℕ) → count_at c r ≡ first_count c.setup r
 fresh_counts c f r = subst (λ (x : Core). count_at x r ≡ first_count x.setup r) (sym f.is) (fresh_counted f.config.shapes.items f.lanes r f.can.lane_count)

@@ -9,7 +9,7 @@ use Rattle.page_base.specs.Lanes.{LaneSeen}
 use Rattle.page_base.specs.declared.keys.Key.{Key}
 use Rattle.page_base.specs.declared.keys.RegionShape.{RegionShape}
 use Rattle.page_model.specs.Core.{Core, LanePlace, Home, RegionSeen}
-use Rattle.page_model.specs.Setups.{Setup, base_of, told_by, first_count, count_by}
+use Rattle.page_model.specs.Setups.{Setup, base_of, told_in, first_count, count_by}
 use Rattle.page_model.specs.Stands.{StandsFor}
 use Rattle.page_model.specs.Steps.{fresh, fresh_regions}
 use Rattle.stripe_core.specs.declared.config.StripeConfig.{StripeConfig}
@@ -18,7 +18,7 @@ use Rattle.serial_pager.specs.declared.pager.PagerConfig.{PagerConfig}
 use Rattle.serial_pager.specs.Seen.{StripeSeen}
 use Rattle.serial_pager.specs.Rests.{IsAtRest}
 use Rattle.serial_pager.specs.Holdings as stripe
-use Rattle.serial_pager.specs.Pagers.{PagerSeen, AreLanesOf, AreRowsOf, rows_by, config_of, CanOpen, IsOpened, core_in, held_in, owes_in, count_in, stripe_at, held, owes, count_at}
+use Rattle.serial_pager.specs.Pagers.{PagerSeen, AreLanesOfCore, AreRowsOf, rows_by, config_of, CanOpen, IsOpened, core_in, held_in, owes_in, count_in, stripe_at, held, owes, count_at}
 use Rattle.serial_pager.specs.Sound.{seen_of}
 use Rattle.serial_pager.specs.InsideSound.{HandsBack, IsStripe, IsSound}
 use Rattle.serial_pager.proofs.Unmade.{some_is, map_append, reverse_snoc}
@@ -54,7 +54,7 @@ fresh_lane (s ∷ ss) (k ∷ ks) zero g l e f = ap (λ x. Some x) (home_is (ap (
 fresh_lane (s ∷ ss) (k ∷ ks) (suc r) g l e f = fresh_lane ss ks r g l e f
 
 -- the lanes that a stripe which has just been made has at home
-fresh_row : (u : Setup) (row : List LaneSeen) → length u.lanes ≡ length u.shapes → AreLanesOf (fresh u) row → row ≡ u.lanes
+fresh_row : (u : Setup) (row : List LaneSeen) → length u.lanes ≡ length u.shapes → AreLanesOfCore (fresh u) row → row ≡ u.lanes
 fresh_row u row count are = same_items row u.lanes (are.count ∙ sym count) (λ r lane e. let h = are.here r lane e in fresh_lane u.shapes u.lanes r h.region lane h.is h.home)
 
 abbrev pub lanes_of : {J : Type 0} → StripeSeen J → List LaneSeen
@@ -133,7 +133,7 @@ module _ {J S : Type 0} (seen : S → LaneSeen) (c : PagerConfig) (cfg : StripeC
                   past (z ∷ xs) (suc q) f = omega (arith, past xs q f)
           go (Some x) at =
               let n = m.made i x at in
-              let are : AreLanesOf (fresh (setup_of (config_of c i) (lanes_of x))) row = subst (λ (d : Core). AreLanesOf d row) n.core (h.each i row x e at) in
+              let are : AreLanesOfCore (fresh (setup_of (config_of c i) (lanes_of x))) row = subst (λ (d : Core). AreLanesOfCore d row) n.core (h.each i row x e at) in
               slice_get-map lanes_of stripes i ∙ ap (option_map lanes_of) at ∙ ap (λ l. Some l) (sym (fresh_row (setup_of (config_of c i) (lanes_of x)) row n.can.lane_count are))
 
   -- all are made
@@ -210,9 +210,9 @@ module _ {J S : Type 0} (seen : S → LaneSeen) (c : PagerConfig) (cfg : StripeC
             none_some : None ≡ Some row → ⊥
             none_some h = cc
 
-        held_go : (k : Key) (row : List LaneSeen) → slice_get rows (stripe_at p k) ≡ Some row → (o : Option (StripeSeen J)) → slice_get stripes (stripe_at p k) ≡ o → held p k ≡ told_by (slice_get row k.region) k.page
+        held_go : (k : Key) (row : List LaneSeen) → slice_get rows (stripe_at p k) ≡ Some row → (o : Option (StripeSeen J)) → slice_get stripes (stripe_at p k) ≡ o → held p k ≡ told_in (slice_get row k.region) k.page
         held_go k row e None at = absurd (gone (stripe_at p k) row e at)
-        held_go k row e (Some x) at = ap (λ o. held_in (core_in o) k) (in_p (stripe_at p k) ∙ at) ∙ (m.made (stripe_at p k) x at).held k ∙ ap (λ l. told_by (slice_get l k.region) k.page) (row_of (stripe_at p k) row x e at)
+        held_go k row e (Some x) at = ap (λ o. held_in (core_in o) k) (in_p (stripe_at p k) ∙ at) ∙ (m.made (stripe_at p k) x at).held k ∙ ap (λ l. told_in (slice_get l k.region) k.page) (row_of (stripe_at p k) row x e at)
 
         owes_go : (k : Key) (o : Option (StripeSeen J)) → slice_get stripes (stripe_at p k) ≡ o → owes p k ≡ false
         owes_go k None at = ap (λ o. owes_in (core_in o) k) (in_p (stripe_at p k) ∙ at)
@@ -232,6 +232,6 @@ rows_of_stripes {J} p rows h =
       each = λ s row c e f. go s row c (ap (λ rs. slice_get rs s) (sym same) ∙ e) (slice_get p.stripes s) refl f;
     }
   where
-    go : (s : ℕ) (row : List LaneSeen) (c : Core) → slice_get h.own s ≡ Some row → (o : Option (StripeSeen J)) → slice_get p.stripes s ≡ o → core_in o ≡ Some c → AreLanesOf c row
+    go : (s : ℕ) (row : List LaneSeen) (c : Core) → slice_get h.own s ≡ Some row → (o : Option (StripeSeen J)) → slice_get p.stripes s ≡ o → core_in o ≡ Some c → AreLanesOfCore c row
     go s row c e None at f = absurd (cc)
-    go s row c e (Some x) at f = subst (λ (d : Core). AreLanesOf d row) (some_is f) (h.each s row x e at)
+    go s row c e (Some x) at f = subst (λ (d : Core). AreLanesOfCore d row) (some_is f) (h.each s row x e at)

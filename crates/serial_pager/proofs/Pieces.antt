@@ -20,7 +20,7 @@ use Rattle.serial_pager.specs.Rests.{IsAtRest}
 use Rattle.serial_pager.specs.Goings.{WentTo}
 use Rattle.serial_pager.specs.Accesses.{NamesCount, WriteFails, AccessFails, serves}
 use Rattle.serial_pager.specs.Holdings as stripe
-use Rattle.serial_pager.specs.Pagers.{PagerSeen, core_in, has_page, stripe_at, count_at, IsPiece, IsSame, IsWithin, OnStripe, NamesFault}
+use Rattle.serial_pager.specs.Pagers.{PagerSeen, core_in, has_key, stripe_at, count_at, IsPiece, IsSame, IsWithin, OnStripe, NamesFault}
 use Rattle.serial_pager.specs.Sound.{seen_of}
 use Rattle.serial_pager.specs.InsideSound.{IsStripe, IsSound}
 use Rattle.serial_pager.proofs.Keys.{same-true}
@@ -137,7 +137,7 @@ module _ {J : Type 0} (has_noted : J → History Entry → Type 0) (k : Key) (re
   access_setup (Err f) last may_owe x y went (inr w) = w.went.went.setup
 
   -- the fault of a piece of page k, as all pages see it
-  module _ (old new : PagerSeen J) (s : ℕ) (x y : StripeSeen J) (t : Touches old s x) (is : new.stripes ≡ slice_set old.stripes s y) (shapes : new.shapes ≡ old.shapes) (at : s ≡ stripe_at old k) (page : has_page old k ≡ true) where
+  module _ (old new : PagerSeen J) (s : ℕ) (x y : StripeSeen J) (t : Touches old s x) (is : new.stripes ≡ slice_set old.stripes s y) (shapes : new.shapes ≡ old.shapes) (at : s ≡ stripe_at old k) (page : has_key old k ≡ true) where
     names : (may_owe : Key → Bool) → ((j : Key) → may_owe j ≡ true → (stripe.owes x.core j ≡ true) ⊎ (j ≡ k)) → (f : PageFault) → AccessFails has_noted k reasons may_owe x y f → NamesCount x.core y.core f → NamesFault k old new f
     names may_owe from f fails count =
         let found = place f fails in
@@ -153,8 +153,8 @@ module _ {J : Type 0} (has_noted : J → History Entry → Type 0) (k : Key) (re
           rose = subst (λ n. Rose n f.faults) (sym (ap (λ q. count_at old q f.key.region) (sym at) ∙ count_was old new s x y t.was is shapes f.key.region)) count.rose;
         }
       where
-        place : (f : PageFault) → AccessFails has_noted k reasons may_owe x y f → (has_page old f.key ≡ true) × (stripe_at old f.key ≡ s)
-        place f (inl r) = (ap (has_page old) r.key ∙ page, ap (stripe_at old) r.key ∙ sym at)
+        place : (f : PageFault) → AccessFails has_noted k reasons may_owe x y f → (has_key old f.key ≡ true) × (stripe_at old f.key ≡ s)
+        place f (inl r) = (ap (has_key old) r.key ∙ page, ap (stripe_at old) r.key ∙ sym at)
         place f (inr w) = pages_of_stripe old s x.core t.part f.key (core_of_fault has_noted k reasons x y f t.part.rest (record { owed = refl; went = w.went }))
 
         asked : (f : PageFault) → AccessFails has_noted k reasons may_owe x y f → (f.key ≡ k) ⊎ (stripe.owes x.core f.key ≡ true)

@@ -11,29 +11,29 @@ use Rattle.page_model.specs.Setups as setup
 use Rattle.page_model.specs.Setups.{Setup}
 use Rattle.serial_pager.specs.Seen.{StripeSeen}
 use Rattle.serial_pager.specs.Holdings as stripe
-use Rattle.serial_pager.specs.Pagers.{PagerSeen, group_in, page_in, core_in, held_in, owes_in, count_in, core_at, has_page, is_writable, may_store, stripe_at, held, owes, count_at, setup_at, journals_made, HoldsSame, CountsGrow}
+use Rattle.serial_pager.specs.Pagers.{PagerSeen, group_in, region_has_page, core_in, held_in, owes_in, count_in, core_at, has_key, is_writable, may_store, stripe_at, held, owes, count_at, setup_at, journals_made, HoldsSame, CountsGrow}
 use Rattle.serial_pager.specs.InsideSound.{IsStripe}
 use Rattle.serial_pager.proofs.Lists.{slice_set_same, slice_set_other, slice_set_length}
 use Rattle.serial_pager.proofs.Unmade.{some_is}
 
 -- ---- which stripe a page lies in
 
-in_stripe : (s : Setup) (o : Option RegionShape) (k : Key) → setup.is_page_of s o k ≡ true → (page_in o k.page ≡ true) × (stripe_of s.stripes (group_in o) k.region k.page ≡ s.number)
+in_stripe : (s : Setup) (o : Option RegionShape) (k : Key) → setup.is_page_of s o k ≡ true → (region_has_page o k.page ≡ true) × (stripe_of s.stripes (group_in o) k.region k.page ≡ s.number)
 in_stripe s None k e = absurd (cc)
 in_stripe s (Some shape) k e = let both = and_parts _ _ e in (both.0, eqb-true _ _ both.1)
 
-of_stripe : (s : Setup) (o : Option RegionShape) (k : Key) → page_in o k.page ≡ true → stripe_of s.stripes (group_in o) k.region k.page ≡ s.number → setup.is_page_of s o k ≡ true
+of_stripe : (s : Setup) (o : Option RegionShape) (k : Key) → region_has_page o k.page ≡ true → stripe_of s.stripes (group_in o) k.region k.page ≡ s.number → setup.is_page_of s o k ≡ true
 of_stripe s None k e f = absurd (cc)
 of_stripe s (Some shape) k e f = both_true e (eq-eqb _ _ f)
 
 module _ {J : Type 0} (p : PagerSeen J) (s : ℕ) (c : Core) (part : IsStripe p s c) where
   -- the pages of a stripe are the pager's pages that lie in it
-  pub pages_of_stripe : (k : Key) → setup.has_page c.setup k ≡ true → (has_page p k ≡ true) × (stripe_at p k ≡ s)
+  pub pages_of_stripe : (k : Key) → setup.has_page c.setup k ≡ true → (has_key p k ≡ true) × (stripe_at p k ≡ s)
   pages_of_stripe k e =
       let both = in_stripe c.setup (slice_get p.shapes k.region) k (subst (λ (ss : List RegionShape). setup.is_page_of c.setup (slice_get ss k.region) k ≡ true) part.shapes e) in
       (both.0, ap (λ n. stripe_of n (group_in (slice_get p.shapes k.region)) k.region k.page) (sym part.stripes) ∙ both.1 ∙ part.number)
 
-  pub stripe_of_pages : (k : Key) → has_page p k ≡ true → stripe_at p k ≡ s → setup.has_page c.setup k ≡ true
+  pub stripe_of_pages : (k : Key) → has_key p k ≡ true → stripe_at p k ≡ s → setup.has_page c.setup k ≡ true
   stripe_of_pages k e f =
       subst (λ (ss : List RegionShape). setup.is_page_of c.setup (slice_get ss k.region) k ≡ true) (sym part.shapes)
       (of_stripe c.setup (slice_get p.shapes k.region) k e (ap (λ n. stripe_of n (group_in (slice_get p.shapes k.region)) k.region k.page) part.stripes ∙ f ∙ sym part.number))
@@ -90,7 +90,7 @@ module _ {J : Type 0} (old new : PagerSeen J) (s : ℕ) (x y : StripeSeen J) (wa
   pub journals_same : {M : Type 0} (made_with : J → M) → made_with y.journal ≡ made_with x.journal → journals_made made_with new ≡ journals_made made_with old
   journals_same made_with e = ap (map (λ (v : StripeSeen J). made_with v.journal)) is ∙ map_set (λ (v : StripeSeen J). made_with v.journal) old.stripes s x y was e
 
-  pub held_same : ((k : Key) → has_page old k ≡ true → stripe_at old k ≡ s → stripe.held y.core k ≡ stripe.held x.core k) → HoldsSame old new
+  pub held_same : ((k : Key) → has_key old k ≡ true → stripe_at old k ≡ s → stripe.held y.core k ≡ stripe.held x.core k) → HoldsSame old new
   held_same same k page = elim (cases_eq (stripe_at old k) s) [
     | inl here ↦ ap (λ o. held_in o k) (page_here k here) ∙ same k page here ∙ sym (ap (λ o. held_in o k) (page_was k here))
     | inr other ↦ ap (λ o. held_in o k) (page_other k other)
@@ -102,8 +102,8 @@ module _ {J : Type 0} (old new : PagerSeen J) (s : ℕ) (x y : StripeSeen J) (wa
   pub held_was : (k : Key) → stripe_at old k ≡ s → held old k ≡ stripe.held x.core k
   held_was k here = ap (λ o. held_in o k) (page_was k here)
 
-  pub held_others : (key : Key) → ((k : Key) → has_page old k ≡ true → stripe_at old k ≡ s → (k ≡ key → ⊥) → stripe.held y.core k ≡ stripe.held x.core k)
-      → (k : Key) → has_page old k ≡ true → (k ≡ key → ⊥) → held new k ≡ held old k
+  pub held_others : (key : Key) → ((k : Key) → has_key old k ≡ true → stripe_at old k ≡ s → (k ≡ key → ⊥) → stripe.held y.core k ≡ stripe.held x.core k)
+      → (k : Key) → has_key old k ≡ true → (k ≡ key → ⊥) → held new k ≡ held old k
   held_others key same k page ne = elim (cases_eq (stripe_at old k) s) [
     | inl here ↦ held_here k here ∙ same k page here ne ∙ sym (held_was k here)
     | inr other ↦ ap (λ o. held_in o k) (page_other k other)

@@ -14,7 +14,7 @@ use Rattle.page_model.specs.Setups.{origin_of}
 use Rattle.page_model.specs.Stands.{StandsFor, HomeLane}
 use Rattle.serial_pager.specs.Seen.{StripeSeen}
 use Rattle.serial_pager.specs.Rests.{IsAtRest}
-use Rattle.serial_pager.specs.Pagers.{AreLanesOf, rows_by}
+use Rattle.serial_pager.specs.Pagers.{AreLanesOfCore, rows_by}
 use Rattle.serial_pager.specs.InsideSound.{HandsBack}
 
 pub map_append : {A B : Type 0} (f : A → B) (xs ys : List A) → map f (xs ++ ys) ≡ map f xs ++ map f ys
@@ -51,7 +51,7 @@ some_is {A} {a} {b} e = ap (from a) e
 pub home_lanes : {S : Type 0} (seen : S → LaneSeen) (c : Core) (items : List S) → IsAtRest c → length items ≡ length c.setup.shapes
     → ((r : ℕ) (lane : S) → slice_get items r ≡ Some lane → IsHere c r (seen lane))
     → ((h : History Entry) → StandsFor h c → (r : ℕ) (lane : S) → slice_get items r ≡ Some lane → HomeLane c.setup h r (seen lane))
-    → AreLanesOf c (map seen items)
+    → AreLanesOfCore c (map seen items)
 home_lanes {S} seen c items rest count here stands = record {
   count = length-map items seen ∙ count;
   here = λ r lane e. go r lane (slice_get items r) refl (sym (slice_get-map seen items r) ∙ e);
@@ -75,7 +75,7 @@ pub record TakenApart {J S : Type 0} (seen : S → LaneSeen) (all left : List (S
   pub rows : rows_by seen lanes ≡ rows_by seen first ++ reverse own
   pub noted : journals ≡ given ++ reverse (map (λ (x : StripeSeen J). x.journal) back)
   pub count : length own ≡ length back
-  pub each : (s : ℕ) (row : List LaneSeen) (x : StripeSeen J) → slice_get own s ≡ Some row → slice_get back s ≡ Some x → AreLanesOf x.core row
+  pub each : (s : ℕ) (row : List LaneSeen) (x : StripeSeen J) → slice_get own s ≡ Some row → slice_get back s ≡ Some x → AreLanesOfCore x.core row
 
 pub apart_none : {J S : Type 0} (seen : S → LaneSeen) (all : List (StripeSeen J)) (first : List (ListSeen S)) (given : List J) → TakenApart seen all all first first given given
 apart_none seen all first given = record {
@@ -89,7 +89,7 @@ apart_none seen all first given = record {
 }
 
 pub apart_more : {J S : Type 0} (seen : S → LaneSeen) (all old new : List (StripeSeen J)) (first lanes : List (ListSeen S)) (given journals : List J) (x : StripeSeen J) (own : ListSeen S)
-    → TakenApart seen all old first lanes given journals → old ≡ new ++ x ∷ [] → AreLanesOf x.core (map seen own.items)
+    → TakenApart seen all old first lanes given journals → old ≡ new ++ x ∷ [] → AreLanesOfCore x.core (map seen own.items)
     → TakenApart seen all new first (lanes ++ own ∷ []) given (journals ++ x.journal ∷ [])
 apart_more {J} {S} seen all old new first lanes given journals x own t split are = record {
   back = x ∷ t.back;
@@ -103,8 +103,8 @@ apart_more {J} {S} seen all old new first lanes given journals x own t split are
   each = each;
 }
   where
-    each : (s : ℕ) (row : List LaneSeen) (z : StripeSeen J) → slice_get (map seen own.items ∷ t.own) s ≡ Some row → slice_get (x ∷ t.back) s ≡ Some z → AreLanesOf z.core row
-    each zero row z e f = subst (λ (w : StripeSeen J). AreLanesOf w.core row) (some_is f) (subst (λ (l : List LaneSeen). AreLanesOf x.core l) (some_is e) are)
+    each : (s : ℕ) (row : List LaneSeen) (z : StripeSeen J) → slice_get (map seen own.items ∷ t.own) s ≡ Some row → slice_get (x ∷ t.back) s ≡ Some z → AreLanesOfCore z.core row
+    each zero row z e f = subst (λ (w : StripeSeen J). AreLanesOfCore w.core row) (some_is f) (subst (λ (l : List LaneSeen). AreLanesOfCore x.core l) (some_is e) are)
     each (suc s) row z e f = t.each s row z e f
 
 pub apart_all : {J S : Type 0} (seen : S → LaneSeen) (all left : List (StripeSeen J)) (first lanes : List (ListSeen S)) (given journals : List J) → TakenApart seen all left first lanes given journals → left ≡ []

@@ -14,7 +14,7 @@ use Rattle.serial_pager.specs.Holdings as one
 use Rattle.serial_pager.specs.Holdings.{HoldsSame, CountsGrow}
 use Rattle.serial_pager.specs.Writings.{flushes, is_failed_write, RoseAt, IsTried, TriesDirty}
 use Rattle.serial_pager.specs.Rests.{IsAtRest}
-use Rattle.serial_pager.specs.Pagers.{PagerSeen, AreLanesOf}
+use Rattle.serial_pager.specs.Pagers.{PagerSeen, AreLanesOfCore}
 
 -- the core is that of stripe s, and has few entries
 pub record IsStripe {J : Type 0} (p : PagerSeen J) (s : ℕ) (core : Core) : Type 0 where
@@ -87,4 +87,4 @@ pub record HandsBack {J : Type 0} (stripes : List (StripeSeen J)) (others rows :
   pub own : List (List LaneSeen)
   pub is : rows ≡ own ++ reverse others
   pub count : length own ≡ length stripes
-  pub each : (s : ℕ) (row : List LaneSeen) (x : StripeSeen J) → slice_get own s ≡ Some row → slice_get stripes s ≡ Some x → AreLanesOf x.core row
+  pub each : (s : ℕ) (row : List LaneSeen) (x : StripeSeen J) → slice_get own s ≡ Some row → slice_get stripes s ≡ Some x → AreLanesOfCore x.core row

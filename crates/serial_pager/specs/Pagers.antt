@@ -7,7 +7,7 @@ use Rattle.page_base.specs.declared.keys.RegionShape.{RegionShape}
 use Rattle.page_base.specs.Lanes.{LaneSeen, Rose}
 use Rattle.page_base.specs.Pages.{stripe_of}
 use Rattle.page_model.specs.declared.entry.Entry.{Entry}
-use Rattle.page_model.specs.Setups.{Setup, quota, told_by, count_by, origin_of}
+use Rattle.page_model.specs.Setups.{Setup, quota, told_in, count_by, origin_of}
 use Rattle.page_model.specs.Core.{Core}
 use Rattle.page_model.specs.Readers.{IsHere}
 use Rattle.page_model.specs.Stands.{StandsFor}
@@ -52,9 +52,9 @@ abbrev pub group_in : Option RegionShape → ℕ
 group_in None = 1
 group_in (Some shape) = shape.group
 
-abbrev pub page_in : Option RegionShape → ℕ → Bool
-page_in None page = false
-page_in (Some shape) page = nat_lt page shape.pages
+abbrev pub region_has_page : Option RegionShape → ℕ → Bool
+region_has_page None page = false
+region_has_page (Some shape) page = nat_lt page shape.pages
 
 abbrev pub may_store : Option RegionShape → Bool
 may_store None = false
@@ -81,7 +81,7 @@ count_in None r = 0
 count_in (Some c) r = stripe.count_at c r
 
 -- these lanes are the ones that one stripe has at home
-pub record AreLanesOf (c : Core) (row : List LaneSeen) : Type 0 where
+pub record AreLanesOfCore (c : Core) (row : List LaneSeen) : Type 0 where
   pub count : length row ≡ length c.setup.shapes
   pub here : (r : ℕ) (lane : LaneSeen) → slice_get row r ≡ Some lane → IsHere c r lane
   pub origin : (r : ℕ) (lane : LaneSeen) → slice_get row r ≡ Some lane → origin_of c.setup r ≡ Some lane.origin
@@ -91,8 +91,8 @@ module _ {J : Type 0} where
   core_at p s = core_in (slice_get p.stripes s)
 
   -- the key names a page of one of the regions
-  abbrev pub has_page : PagerSeen J → Key → Bool
-  has_page p k = page_in (slice_get p.shapes k.region) k.page
+  abbrev pub has_key : PagerSeen J → Key → Bool
+  has_key p k = region_has_page (slice_get p.shapes k.region) k.page
 
   -- the region may be stored to
   abbrev pub is_writable : PagerSeen J → ℕ → Bool
@@ -124,7 +124,7 @@ module _ {J : Type 0} where
 
   -- a piece in one page that lies in the region
   pub record IsPiece (p : PagerSeen J) (k : Key) (place len : ℕ) : Type 0 where
-    pub page : has_page p k ≡ true
+    pub page : has_key p k ≡ true
     pub some : 0 < len
     pub within : place + len ≤ p.page_size
 
@@ -182,15 +182,15 @@ module _ {J : Type 0} where
 
   -- each page holds what it held
   abbrev pub HoldsSame : (old new : PagerSeen J) → Type 0
-  HoldsSame old new = (k : Key) → has_page old k ≡ true → held new k ≡ held old k
+  HoldsSame old new = (k : Key) → has_key old k ≡ true → held new k ≡ held old k
 
   -- each page but one holds what it held
   abbrev pub HoldsOthers : Key → (old new : PagerSeen J) → Type 0
-  HoldsOthers k old new = (j : Key) → has_page old j ≡ true → (j ≡ k → ⊥) → held new j ≡ held old j
+  HoldsOthers k old new = (j : Key) → has_key old j ≡ true → (j ≡ k → ⊥) → held new j ≡ held old j
 
   -- a page that needn't be written is told by its lane as it is held
   abbrev pub KeepsUnowed : PagerSeen J → Type 0
-  KeepsUnowed p = (k : Key) → has_page p k ≡ true → owes p k ≡ false → IfSome (held p k) (λ bytes. kept p k ≡ Some bytes)
+  KeepsUnowed p = (k : Key) → has_key p k ≡ true → owes p k ≡ false → IfSome (held p k) (λ bytes. kept p k ≡ Some bytes)
 
   -- for each stripe's lane of each region
   abbrev pub ForEachLane : PagerSeen J → ((stripe region : ℕ) → Type 0) → Type 0
@@ -207,7 +207,7 @@ module _ {J : Type 0} where
   -- The fault is of the page that was asked for, or of a page of its stripe that might have to be written; the page's lane
   -- counts it
   pub record NamesFault (k : Key) (old new : PagerSeen J) (f : PageFault) : Type 0 where
-    pub page : has_page old f.key ≡ true
+    pub page : has_key old f.key ≡ true
     pub stripe : stripe_at old f.key ≡ stripe_at old k
     pub whose : (f.key ≡ k) ⊎ (owes old f.key ≡ true)
     pub count : f.faults ≡ count_at new (stripe_at old k) f.key.region
@@ -219,7 +219,7 @@ module _ {J : Type 0} where
 
   -- a stripe's lanes tell what each page of the region holds
   abbrev pub IsKept : PagerSeen J → (stripe region : ℕ) → Type 0
-  IsKept p s r = (k : Key) → k.region ≡ r → has_page p k ≡ true → stripe_at p k ≡ s → IfSome (held p k) (λ bytes. kept p k ≡ Some bytes)
+  IsKept p s r = (k : Key) → k.region ≡ r → has_key p k ≡ true → stripe_at p k ≡ s → IfSome (held p k) (λ bytes. kept p k ≡ Some bytes)
 
   -- or a write of one of them failed
   abbrev pub IsTried : (old new : PagerSeen J) → (stripe region : ℕ) → Type 0
@@ -228,12 +228,12 @@ module _ {J : Type 0} where
   -- the stripes' lanes, by these rows, tell of each page what the pager's do
   abbrev pub TellsKept : PagerSeen J → List (List LaneSeen) → Type 0
   TellsKept p rows =
-      (k : Key) (row : List LaneSeen) → has_page p k ≡ true → slice_get rows (stripe_at p k) ≡ Some row
-      → told_by (slice_get row k.region) k.page ≡ kept p k
+      (k : Key) (row : List LaneSeen) → has_key p k ≡ true → slice_get rows (stripe_at p k) ≡ Some row
+      → told_in (slice_get row k.region) k.page ≡ kept p k
 
   pub record AreRowsOf (p : PagerSeen J) (rows : List (List LaneSeen)) : Type 0 where
     pub count : length rows ≡ length p.stripes
-    pub each : (s : ℕ) (row : List LaneSeen) (c : Core) → slice_get rows s ≡ Some row → core_at p s ≡ Some c → AreLanesOf c row
+    pub each : (s : ℕ) (row : List LaneSeen) (c : Core) → slice_get rows s ≡ Some row → core_at p s ≡ Some c → AreLanesOfCore c row
 
   -- the stripe has just been made with these lanes, and stands for no entry
   pub record IsMade (c : PagerConfig) (s : ℕ) (row : List LaneSeen) (first : J) (x : StripeSeen J) : Type 0 where
@@ -248,6 +248,6 @@ module _ {J : Type 0} where
     pub spent : p.spent ≡ 0
     pub each : (s : ℕ) (row : List LaneSeen) (journal : J) (x : StripeSeen J) → slice_get rows s ≡ Some row → slice_get journals s ≡ Some journal
         → slice_get p.stripes s ≡ Some x → IsMade c s row journal x
-    pub holds : (k : Key) (row : List LaneSeen) → slice_get rows (stripe_at p k) ≡ Some row → held p k ≡ told_by (slice_get row k.region) k.page
+    pub holds : (k : Key) (row : List LaneSeen) → slice_get rows (stripe_at p k) ≡ Some row → held p k ≡ told_in (slice_get row k.region) k.page
     pub owes : (k : Key) → owes p k ≡ false
     pub counts : (s r : ℕ) (row : List LaneSeen) → slice_get rows s ≡ Some row → count_at p s r ≡ count_by (slice_get row r)

@@ -8,7 +8,7 @@ use Rattle.page_base.specs.KeyOrder.{is_below, is_past}
 use Rattle.page_base.specs.declared.keys.Key.{Key}
 use Rattle.soft_mmu.specs.declared.entry.PageEntry.{PageEntry}
 use Rattle.soft_mmu.specs.declared.entry.PageEntry.TheVariants.{Absent}
-use Rattle.soft_mmu.specs.Entries.{is_dirty, entry_of, IsNextDirty}
+use Rattle.soft_mmu.specs.Entries.{is_dirty, table_entry, IsNextDirty}
 use Rattle.soft_mmu.specs.InsideLeaves.{IsFirstDirty, NoneDirtyFrom, place_behind}
 
 abbrev pub at : ℕ → ℕ → Key
@@ -17,7 +17,7 @@ at region page = record { region = region; page = page }
 -- a search past `after` has come to a place: what lies there or behind is past, and what is past and lies before is clean
 pub record HasCome (table : List (List PageEntry)) (after : Option Key) (region page : ℕ) : Type 0 where
   pub past : (later : ℕ) → page ≤ later → is_past after (at region later) ≡ true
-  pub clean : (key : Key) → is_past after key ≡ true → is_below key (at region page) ≡ true → is_dirty (entry_of table key) ≡ false
+  pub clean : (key : Key) → is_past after key ≡ true → is_below key (at region page) ≡ true → is_dirty (table_entry table key) ≡ false
 
 -- a key of the same region that comes no earlier has no lower page
 same_region : (key : Key) (region page : ℕ) → is_below key (at region page) ≡ false → is_below key (at (region + 1) 0) ≡ true → (key.region ≡ region) × (page ≤ key.page)
@@ -58,7 +58,7 @@ starts table (Some after) = record {
 
 module _ (table : List (List PageEntry)) (after : Option Key) (region page : ℕ) (come : HasCome table after region page) where
   -- the entry of a key of this region
-  here : (key : Key) → key.region ≡ region → is_dirty (entry_of table key) ≡ is_dirty (slice_index_or (slice_index_or table region []) key.page Absent)
+  here : (key : Key) → key.region ≡ region → is_dirty (table_entry table key) ≡ is_dirty (slice_index_or (slice_index_or table region []) key.page Absent)
   here key is = ap (λ r. is_dirty (slice_index_or (slice_index_or table r []) key.page Absent)) is
 
   pub goes_on : NoneDirtyFrom (slice_index_or table region []) page → HasCome table after (region + 1) 0
@@ -79,7 +79,7 @@ module _ (table : List (List PageEntry)) (after : Option Key) (region page : ℕ
     least =
         λ other dirty is.
         false_from_ne_true (is_below other (at region found)) (λ before.
-        let clean : is_dirty (entry_of table other) ≡ false =
+        let clean : is_dirty (table_entry table other) ≡ false =
         elim (cases_Bool (is_below other (at region page))) [
           | inl low ↦ come.clean other is low
           | inr not_low ↦ let same = between other region page found not_low before in here other same.0 ∙ first.before other.page same.1 same.2
@@ -87,7 +87,7 @@ module _ (table : List (List PageEntry)) (after : Option Key) (region page : ℕ
         cc);
   }
 
-  pub ends : length table ≤ region → (key : Key) → is_past after key ≡ true → is_dirty (entry_of table key) ≡ false
+  pub ends : length table ≤ region → (key : Key) → is_past after key ≡ true → is_dirty (table_entry table key) ≡ false
   ends end key is = elim (cases_Bool (is_below key (at region page))) [
     | inl low ↦ come.clean key is low
     | inr not_low ↦

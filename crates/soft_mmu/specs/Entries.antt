@@ -52,20 +52,20 @@ cleaned (Present protected dirty frame) = Present protected false frame
 
 -- ---- the table: for each region the entries of its pages
 
-abbrev pub pages_of : List (List PageEntry) → ℕ → List PageEntry
-pages_of table region = slice_index_or table region []
+abbrev pub region_entries : List (List PageEntry) → ℕ → List PageEntry
+region_entries table region = slice_index_or table region []
 
-abbrev pub entry_of : List (List PageEntry) → Key → PageEntry
-entry_of table key = slice_index_or (pages_of table key.region) key.page Absent
+abbrev pub table_entry : List (List PageEntry) → Key → PageEntry
+table_entry table key = slice_index_or (region_entries table key.region) key.page Absent
 
 -- the table has this page
 pub record HasPage (table : List (List PageEntry)) (key : Key) : Type 0 where
   pub region : key.region < length table
-  pub page : key.page < length (pages_of table key.region)
+  pub page : key.page < length (region_entries table key.region)
 
 -- the table with one entry set, all else as before
 abbrev pub with_entry : List (List PageEntry) → Key → PageEntry → List (List PageEntry)
-with_entry table key entry = slice_set table key.region (slice_set (pages_of table key.region) key.page entry)
+with_entry table key entry = slice_set table key.region (slice_set (region_entries table key.region) key.page entry)
 
 -- no page of these regions is present
 abbrev pub no_pages : List RegionShape → List (List PageEntry)
@@ -75,10 +75,10 @@ no_pages shapes = map (λ (s : RegionShape). replicate s.pages Absent) shapes
 
 -- the page is dirty and past the key, and no other such page comes before it
 pub record IsNextDirty (table : List (List PageEntry)) (after : Option Key) (key : Key) : Type 0 where
-  pub dirty : is_dirty (entry_of table key) ≡ true
+  pub dirty : is_dirty (table_entry table key) ≡ true
   pub past : is_past after key ≡ true
-  pub least : (other : Key) → is_dirty (entry_of table other) ≡ true → is_past after other ≡ true → is_below other key ≡ false
+  pub least : (other : Key) → is_dirty (table_entry table other) ≡ true → is_past after other ≡ true → is_below other key ≡ false
 
 -- no page past the key is dirty
 abbrev pub NoneDirty : List (List PageEntry) → Option Key → Type 0
-NoneDirty table after = (key : Key) → is_past after key ≡ true → is_dirty (entry_of table key) ≡ false
+NoneDirty table after = (key : Key) → is_past after key ≡ true → is_dirty (table_entry table key) ≡ false

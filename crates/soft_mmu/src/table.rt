@@ -5,7 +5,7 @@ ghost use Rattle.std.specs.Prelude.{◌≡◌, ◌<◌, ◌≤◌, IsTrue, IfOk,
 ghost use Rattle.page_base.specs.declared.limits.TheConstants.{MOST_PAGES};
 ghost use Rattle.soft_mmu.specs.declared.entry.PageEntry.TheVariants.{Absent, Present};
 ghost use Rattle.soft_mmu.specs.InsideLeaves.{place_behind};
-ghost use Rattle.soft_mmu.specs.Entries.{translation, bits_of, is_present, is_protected, is_dirty, closed, opened, cleaned, pages_of, entry_of, HasPage, with_entry, no_pages, IsNextDirty, NoneDirty};
+ghost use Rattle.soft_mmu.specs.Entries.{translation, bits_of, is_present, is_protected, is_dirty, closed, opened, cleaned, region_entries, table_entry, HasPage, with_entry, no_pages, IsNextDirty, NoneDirty};
 
 use crate::entry::{Bits, Found, PageEntry, Wants};
 use crate::region::RegionPages;
@@ -54,7 +54,7 @@ impl PageTable {
     /// What an access of a page finds.
     pub fn translate(&self, key: Key, wants: Wants) -> Found
         requires page { HasPage self.now key }
-        ensures exact { result ≡ translation (entry_of self.now key) wants }
+        ensures exact { result ≡ translation (table_entry self.now key) wants }
     {
         self.entry(key).translate(wants)
     }
@@ -62,7 +62,7 @@ impl PageTable {
     /// The bits of a page.
     pub fn bits(&self, key: Key) -> Bits
         requires page { HasPage self.now key }
-        ensures exact { result ≡ bits_of (entry_of self.now key) }
+        ensures exact { result ≡ bits_of (table_entry self.now key) }
     {
         self.entry(key).bits()
     }
@@ -70,7 +70,7 @@ impl PageTable {
     /// Makes an absent page present in a frame.
     pub fn install(&mut self, key: Key, frame: u32, protected: bool, dirty: bool)
         requires page { HasPage self.old key }
-        requires absent { entry_of self.old key ≡ Absent }
+        requires absent { table_entry self.old key ≡ Absent }
         ensures entry { self.new ≡ with_entry self.old key (Present protected dirty frame) }
     {
         self.set(
@@ -86,8 +86,8 @@ impl PageTable {
     /// Protects a page, so that the next store to it faults.
     pub fn protect(&mut self, key: Key)
         requires page { HasPage self.old key }
-        requires present { IsTrue (is_present (entry_of self.old key)) }
-        ensures entry { self.new ≡ with_entry self.old key (closed (entry_of self.old key)) }
+        requires present { IsTrue (is_present (table_entry self.old key)) }
+        ensures entry { self.new ≡ with_entry self.old key (closed (table_entry self.old key)) }
     {
         self.set(key, self.entry(key).closed());
     }
@@ -95,9 +95,9 @@ impl PageTable {
     /// Opens a protected page to stores. It is dirty from then on.
     pub fn open_page(&mut self, key: Key)
         requires page { HasPage self.old key }
-        requires present { IsTrue (is_present (entry_of self.old key)) }
-        requires protected { IsTrue (is_protected (entry_of self.old key)) }
-        ensures entry { self.new ≡ with_entry self.old key (opened (entry_of self.old key)) }
+        requires present { IsTrue (is_present (table_entry self.old key)) }
+        requires protected { IsTrue (is_protected (table_entry self.old key)) }
+        ensures entry { self.new ≡ with_entry self.old key (opened (table_entry self.old key)) }
     {
         self.set(key, self.entry(key).opened());
     }
@@ -105,8 +105,8 @@ impl PageTable {
     /// Takes the dirty bit of a page, after a good write. Protection stays as it is.
     pub fn mark_clean(&mut self, key: Key)
         requires page { HasPage self.old key }
-        requires present { IsTrue (is_present (entry_of self.old key)) }
-        ensures entry { self.new ≡ with_entry self.old key (cleaned (entry_of self.old key)) }
+        requires present { IsTrue (is_present (table_entry self.old key)) }
+        ensures entry { self.new ≡ with_entry self.old key (cleaned (table_entry self.old key)) }
     {
         self.set(key, self.entry(key).cleaned());
     }
@@ -114,7 +114,7 @@ impl PageTable {
     /// Takes a page from the table.
     pub fn remove(&mut self, key: Key)
         requires page { HasPage self.old key }
-        requires present { IsTrue (is_present (entry_of self.old key)) }
+        requires present { IsTrue (is_present (table_entry self.old key)) }
         ensures entry { self.new ≡ with_entry self.old key Absent }
     {
         self.set(key, PageEntry::Absent);
@@ -123,7 +123,7 @@ impl PageTable {
     /// The number of a region's present pages.
     pub fn present_in(&self, region: u16) -> u32
         requires region { region < length self.now }
-        ensures exact { result ≡ count_by is_present (pages_of self.now region) }
+        ensures exact { result ≡ count_by is_present (region_entries self.now region) }
     {
         let pages = &self.regions[region as usize];
         pages.present()
@@ -132,7 +132,7 @@ impl PageTable {
     /// The number of a region's dirty pages.
     pub fn dirty_in(&self, region: u16) -> u32
         requires region { region < length self.now }
-        ensures exact { result ≡ count_by is_dirty (pages_of self.now region) }
+        ensures exact { result ≡ count_by is_dirty (region_entries self.now region) }
     {
         let pages = &self.regions[region as usize];
         pages.dirty()
@@ -160,7 +160,7 @@ impl PageTable {
 
     fn entry(&self, key: Key) -> PageEntry
         requires page { HasPage self.now key }
-        ensures exact { result ≡ entry_of self.now key }
+        ensures exact { result ≡ table_entry self.now key }
     {
         let pages = &self.regions[key.region as usize];
         pages.entry(key.page)

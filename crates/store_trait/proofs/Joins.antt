@@ -7,13 +7,13 @@ use Rattle.page_base.specs.Lanes.{Origin, LaneSeen, has_page, told_at}
 use Rattle.store_trait.proofs.Told.{told_of_page, told_by-same}
 use Rattle.store_trait.proofs.Rows.{rows_apart, stripe_is}
 use Rattle.store_trait.proofs.Shares.{page_of-append, page_of-appended}
-use Rattle.store_trait.specs.Memory.{memory_origin, page_of}
+use Rattle.store_trait.specs.Memory.{memory_origin, page_bytes}
 use Rattle.store_trait.specs.MemLanes.{lane_origin, lane_seen, AreLanesOf, AreOfOneSplit, AreJoined}
 use Rattle.store_trait.specs.declared.mem_lane.MemLane.{MemLane}
 
 -- each lane's pages below n are those of these bytes
 pub record Shows (n : ℕ) (lanes : List MemLane) (bytes : List ℕ) : Type 0 where
-  pub each : (p s : ℕ) (lane : MemLane) → p < n → slice_get lanes s ≡ Some lane → has_page (lane_origin lane) p ≡ true → told_at (lane_seen lane).told p ≡ Some (page_of lane.page_size bytes p)
+  pub each : (p s : ℕ) (lane : MemLane) → p < n → slice_get lanes s ≡ Some lane → has_page (lane_origin lane) p ≡ true → told_at (lane_seen lane).told p ≡ Some (page_bytes lane.page_size bytes p)
 
 module _ (lanes : List MemLane) (split : AreOfOneSplit lanes) where
   pub same_size : (s : ℕ) (lane : MemLane) → slice_get lanes s ≡ Some lane → lane.page_size ≡ split.page_size
@@ -49,7 +49,7 @@ module _ (lanes : List MemLane) (split : AreOfOneSplit lanes) where
               let place : (split.region + n) % length lanes ≡ s = ap (λ (y : ℕ). (split.region + y) % length lanes) (sym last) ∙ stripe_of_lane s lane p got has in
               let same : here ≡ lane = same_Some here lane (sym at_place ∙ ap (λ (i : ℕ). slice_get lanes i) place ∙ got) in
               let told : told_at (lane_seen lane).told p ≡ Some x = ap (λ (l : MemLane). told_at (lane_seen l).told p) (sym same) ∙ ap (λ (q : ℕ). told_at (lane_seen here).told q) last ∙ tells in
-              told ∙ ap Some (sym (ap (λ (q : ℕ). page_of lane.page_size (bytes ++ x) q) last ∙ ap (λ (z : ℕ). page_of z (bytes ++ x) n) size ∙ page_of-appended split.page_size n bytes x len len_x))
+              told ∙ ap Some (sym (ap (λ (q : ℕ). page_bytes lane.page_size (bytes ++ x) q) last ∙ ap (λ (z : ℕ). page_bytes z (bytes ++ x) n) size ∙ page_of-appended split.page_size n bytes x len len_x))
         ];
   }
 
@@ -59,9 +59,9 @@ module _ (lanes : List MemLane) (split : AreOfOneSplit lanes) where
     size = λ s lane got. len ∙ ap (λ (n : ℕ). n * split.page_size) (sym (same_pages s lane got)) ∙ ap (λ (z : ℕ). lane.pages * z) (sym (same_size s lane got));
     each = λ s lane got.
         let o = lane_origin lane in
-        let kept_of : ℕ → List ℕ = λ p. page_of o.page_size lane.kept.items (p / o.stripes) in
-        ap (λ (told : List (Option (List ℕ))). let seen : LaneSeen = record { origin = o; told = told; count = 0 } in seen) (told_by-same o kept_of (page_of o.page_size bytes) (λ p has.
-        same_Some (kept_of p) (page_of o.page_size bytes p) (sym (told_of_page o kept_of p has) ∙ shows.each p s lane (below s lane p got has) got has)));
+        let kept_of : ℕ → List ℕ = λ p. page_bytes o.page_size lane.kept.items (p / o.stripes) in
+        ap (λ (told : List (Option (List ℕ))). let seen : LaneSeen = record { origin = o; told = told; count = 0 } in seen) (told_by-same o kept_of (page_bytes o.page_size bytes) (λ p has.
+        same_Some (kept_of p) (page_bytes o.page_size bytes p) (sym (told_of_page o kept_of p has) ∙ shows.each p s lane (below s lane p got has) got has)));
   }
     where
       below : (s : ℕ) (lane : MemLane) (p : ℕ) → slice_get lanes s ≡ Some lane → has_page (lane_origin lane) p ≡ true → p < split.pages

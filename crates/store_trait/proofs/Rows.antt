@@ -8,7 +8,7 @@ use Rattle.std.proofs.Math.Nat.{add-sub_cancel_left, div-one}
 use Rattle.page_base.specs.ListSeen.{spliced}
 use Rattle.page_base.specs.Lanes.{Origin, has_page, told_at}
 use Rattle.store_trait.specs.Lanes.{ChangesOnly, retold}
-use Rattle.store_trait.specs.Memory.{page_of, memory_told}
+use Rattle.store_trait.specs.Memory.{page_bytes, memory_told}
 use Rattle.store_trait.proofs.Told.{told_of_page, same_told_at}
 use Rattle.store_trait.specs.WholePages.{length-told_by}
 
@@ -34,14 +34,14 @@ none_below n r p q some residue row = elim (cases_lt p q) [
   ])
 ]
 
-pub page_of-spliced_other : (n i j : ℕ) (xs new : List ℕ) → length new ≡ n → i * n + n ≤ length xs → i ≢ j → page_of n (spliced xs (i * n) new) j ≡ page_of n xs j
+pub page_of-spliced_other : (n i j : ℕ) (xs new : List ℕ) → length new ≡ n → i * n + n ≤ length xs → i ≢ j → page_bytes n (spliced xs (i * n) new) j ≡ page_bytes n xs j
 page_of-spliced_other n i j xs new e fits apart = rw (add-sub_cancel_left (j * n) n) (range_spliced xs new (i * n) (j * n) n e fits (elim (cases_order i j) [
   | inl same ↦ absurd (apart same)
   | inr (inl lt) ↦ inr (rows_apart i j n lt)
   | inr (inr gt) ↦ inl (rows_apart j i n gt)
 ]))
 
-pub page_of-spliced_same : (n i : ℕ) (xs new : List ℕ) → length new ≡ n → i * n + n ≤ length xs → page_of n (spliced xs (i * n) new) i ≡ new
+pub page_of-spliced_same : (n i : ℕ) (xs new : List ℕ) → length new ≡ n → i * n + n ≤ length xs → page_bytes n (spliced xs (i * n) new) i ≡ new
 page_of-spliced_same n i xs new e fits = same_lists _ _ (search (rules, places)) (λ k d h. grind (arith, places))
 
 -- the stripe of a page that goes round alone
@@ -62,15 +62,15 @@ same_page o p q some one has_p has_q row =
 module _ (o : Origin) (kept bytes : List ℕ) (p : ℕ) (some : 0 < o.stripes) (one : o.group ≡ 1) (len : length bytes ≡ o.page_size) (fits : p / o.stripes * o.page_size + o.page_size ≤ length kept) (has : has_page o p ≡ true) where
   pub memory_changes : (now : List ℕ) → now ≡ spliced kept (p / o.stripes * o.page_size) bytes → ChangesOnly p (memory_told o kept) (memory_told o now)
   memory_changes now e = record {
-    as_many = length-told_by o (λ q. page_of o.page_size now (q / o.stripes)) ∙ sym (length-told_by o (λ q. page_of o.page_size kept (q / o.stripes)));
-    others = λ q apart. same_told_at o (λ k. page_of o.page_size now (k / o.stripes)) (λ k. page_of o.page_size kept (k / o.stripes)) q (λ has_q.
-        ap (λ (xs : List ℕ). page_of o.page_size xs (q / o.stripes)) e
+    as_many = length-told_by o (λ q. page_bytes o.page_size now (q / o.stripes)) ∙ sym (length-told_by o (λ q. page_bytes o.page_size kept (q / o.stripes)));
+    others = λ q apart. same_told_at o (λ k. page_bytes o.page_size now (k / o.stripes)) (λ k. page_bytes o.page_size kept (k / o.stripes)) q (λ has_q.
+        ap (λ (xs : List ℕ). page_bytes o.page_size xs (q / o.stripes)) e
         ∙ page_of-spliced_other o.page_size (p / o.stripes) (q / o.stripes) kept bytes len fits (λ row. apart (sym (same_page o p q some one has has_q row))));
-    stays_told = ap is_some (told_of_page o (λ q. page_of o.page_size now (q / o.stripes)) p has) ∙ sym (ap is_some (told_of_page o (λ q. page_of o.page_size kept (q / o.stripes)) p has));
+    stays_told = ap is_some (told_of_page o (λ q. page_bytes o.page_size now (q / o.stripes)) p has) ∙ sym (ap is_some (told_of_page o (λ q. page_bytes o.page_size kept (q / o.stripes)) p has));
   }
 
   pub memory_written : (now : List ℕ) → now ≡ spliced kept (p / o.stripes * o.page_size) bytes → told_at (memory_told o now) p ≡ retold (told_at (memory_told o kept) p) bytes
   memory_written now e =
-      told_of_page o (λ q. page_of o.page_size now (q / o.stripes)) p has
-      ∙ ap Some (ap (λ (xs : List ℕ). page_of o.page_size xs (p / o.stripes)) e ∙ page_of-spliced_same o.page_size (p / o.stripes) kept bytes len fits)
-      ∙ sym (ap (λ t. retold t bytes) (told_of_page o (λ q. page_of o.page_size kept (q / o.stripes)) p has))
+      told_of_page o (λ q. page_bytes o.page_size now (q / o.stripes)) p has
+      ∙ ap Some (ap (λ (xs : List ℕ). page_bytes o.page_size xs (p / o.stripes)) e ∙ page_of-spliced_same o.page_size (p / o.stripes) kept bytes len fits)
+      ∙ sym (ap (λ t. retold t bytes) (told_of_page o (λ q. page_bytes o.page_size kept (q / o.stripes)) p has))

@@ -5,7 +5,7 @@ use Rattle.std.proofs.lemmas.List.{places, same_lists}
 use Rattle.std.proofs.lemmas.Nat.{div-add-mod', mod_below}
 use Rattle.std.proofs.Math.Nat.{add-sub_cancel_left, add-mod, add-mod_right, add-div_right, mod-eq_of_lt}
 use Rattle.page_base.specs.Lanes.{has_page}
-use Rattle.store_trait.specs.Memory.{page_of, memory_origin}
+use Rattle.store_trait.specs.Memory.{page_bytes, memory_origin}
 use Rattle.store_trait.specs.InsideMemory.{TakesShare}
 use Rattle.store_trait.specs.WholePages.{length-page_of}
 use Rattle.store_trait.proofs.Rows.{rows_apart, stripe_is}
@@ -19,11 +19,11 @@ next_of_residue n p q e low high = elim (cases_order (q / n) (p / n)) [
 ]
 
 -- a page below the end of a list stays where more is appended
-pub page_of-append : (size row : ℕ) (xs ys : List ℕ) → row * size + size ≤ length xs → page_of size (xs ++ ys) row ≡ page_of size xs row
+pub page_of-append : (size row : ℕ) (xs ys : List ℕ) → row * size + size ≤ length xs → page_bytes size (xs ++ ys) row ≡ page_bytes size xs row
 page_of-append size row xs ys fits = rw (add-sub_cancel_left (row * size) size) (same_lists _ _ (search (rules, places)) (λ k d h. grind (arith, places)))
 
 -- what is appended is the page behind
-pub page_of-appended : (size row : ℕ) (xs ys : List ℕ) → length xs ≡ row * size → length ys ≡ size → page_of size (xs ++ ys) row ≡ ys
+pub page_of-appended : (size row : ℕ) (xs ys : List ℕ) → length xs ≡ row * size → length ys ≡ size → page_bytes size (xs ++ ys) row ≡ ys
 page_of-appended size row xs ys e f = rw (add-sub_cancel_left (row * size) size) (same_lists _ _ (search (rules, places)) (λ k d h. grind (arith, places)))
 
 pub no_share : (size n first : ℕ) (bytes : List ℕ) → first < n → TakesShare size first n first bytes []
@@ -36,11 +36,11 @@ no_share size n first bytes h = record {
     mod_small p n lt = mod-eq_of_lt lt
 
 module _ (size n first page : ℕ) (bytes own : List ℕ) (some : 0 < n) (residue : page % n ≡ first) (len : length own ≡ page / n * size) (fits : page * size + size ≤ length bytes) (share : TakesShare size page n first bytes own) where
-  pub share_more : TakesShare size (page + n) n first bytes (own ++ page_of size bytes page)
+  pub share_more : TakesShare size (page + n) n first bytes (own ++ page_bytes size bytes page)
   share_more = record {
     reaches = λ p lt e. elim (cases_lt p page) [
-      | inl below ↦ omega (arith, share.reaches p below e, length-append own (page_of size bytes page))
-      | inr above ↦ rw (next_of_residue n p page (e ∙ sym residue) above lt) (omega (arith, length-page_of size page bytes fits, length-append own (page_of size bytes page)))
+      | inl below ↦ omega (arith, share.reaches p below e, length-append own (page_bytes size bytes page))
+      | inr above ↦ rw (next_of_residue n p page (e ∙ sym residue) above lt) (omega (arith, length-page_of size page bytes fits, length-append own (page_bytes size bytes page)))
     ];
     same = λ p lt e. elim (cases_lt p page) [
       | inl below ↦ page_of-append size (p / n) own _ (share.reaches p below e) ∙ share.same p below e
@@ -48,8 +48,8 @@ module _ (size n first page : ℕ) (bytes own : List ℕ) (some : 0 < n) (residu
     ];
   }
 
-  pub share_len : length (own ++ page_of size bytes page) ≡ (page + n) / n * size
-  share_len = rw add-div_right (omega (arith, length-page_of size page bytes fits, length-append own (page_of size bytes page)))
+  pub share_len : length (own ++ page_bytes size bytes page) ≡ (page + n) / n * size
+  share_len = rw add-div_right (omega (arith, length-page_of size page bytes fits, length-append own (page_bytes size bytes page)))
 
 -- the first page of a stripe
 pub residue_of_stripe : (n r s p : ℕ) → 0 < n → s < n → (r + p) % n ≡ s → p % n ≡ (s + n - r % n) % n

@@ -31,18 +31,18 @@ abbrev pub TakesPage : (old new : LaneSeen) (page : ℕ) → List ℕ → Type 0
 TakesPage old new page bytes = told_at new.told page ≡ retold (told_at old.told page) bytes
 
 -- the page of the lane that begins at byte `off` of the region
-abbrev pub page_at : LaneSeen → (off : ℕ) → ℕ
-page_at lane off = off / lane.origin.page_size
+abbrev pub page_number_at : LaneSeen → (off : ℕ) → ℕ
+page_number_at lane off = off / lane.origin.page_size
 
 -- a read at this byte gave the page's bytes, a write there gave it these bytes, and no page but this one changed
 abbrev pub GivesPageAt : LaneSeen → (off : ℕ) → List ℕ → Type 0
-GivesPageAt lane off bytes = IsPageOf lane.told (page_at lane off) bytes
+GivesPageAt lane off bytes = IsPageOf lane.told (page_number_at lane off) bytes
 
 abbrev pub TakesPageAt : (old new : LaneSeen) (off : ℕ) → List ℕ → Type 0
-TakesPageAt old new off bytes = TakesPage old new (page_at old off) bytes
+TakesPageAt old new off bytes = TakesPage old new (page_number_at old off) bytes
 
 abbrev pub ChangesOnlyAt : (old new : LaneSeen) (off : ℕ) → Type 0
-ChangesOnlyAt old new off = ChangesOnly (page_at old off) old.told new.told
+ChangesOnlyAt old new off = ChangesOnly (page_number_at old off) old.told new.told
 
 -- a call of the lane answers a fault only where the lane's count of faults rose, which the fault carries
 abbrev pub HasLaneCause : {A : Type 0} → (old new : LaneSeen) → Result A StoreFault → Type 0

@@ -2,7 +2,7 @@
 use Rattle.std.specs.Prelude.{◌≡◌, ℕ, ◌+◌, ◌*◌, ◌/◌, ◌<◌, ◌≤◌, true, List, ◌++◌, length, Option, Some, is_some}
 use Rattle.page_base.specs.Lanes.{Origin, has_page, told_at}
 use Rattle.store_trait.specs.Lanes.{IsPlace, IsPageOf, retold}
-use Rattle.store_trait.specs.Memory.{page_of, told_by}
+use Rattle.store_trait.specs.Memory.{page_bytes, told_by}
 
 -- a page lies at its number times the page size, and nowhere else
 pub record PagesHavePlaces : Type 0 where
@@ -21,5 +21,5 @@ pub record ToldPages : Type 0 where
 
 -- where a page is appended the earlier ones stay, and it is the last
 pub record PagesAppend : Type 0 where
-  pub earlier : (page_size page : ℕ) (bytes more : List ℕ) → page * page_size + page_size ≤ length bytes → page_of page_size (bytes ++ more) page ≡ page_of page_size bytes page
-  pub last : (page_size page : ℕ) (bytes more : List ℕ) → length bytes ≡ page * page_size → length more ≡ page_size → page_of page_size (bytes ++ more) page ≡ more
+  pub earlier : (page_size page : ℕ) (bytes more : List ℕ) → page * page_size + page_size ≤ length bytes → page_bytes page_size (bytes ++ more) page ≡ page_bytes page_size bytes page
+  pub last : (page_size page : ℕ) (bytes more : List ℕ) → length bytes ≡ page * page_size → length more ≡ page_size → page_bytes page_size (bytes ++ more) page ≡ more

@@ -9,7 +9,7 @@ use Rattle.page_base.specs.Pages.{same}
 use Rattle.page_base.specs.declared.keys.Key.{Key}
 use Rattle.soft_mmu.specs.declared.entry.PageEntry.{PageEntry}
 use Rattle.soft_mmu.specs.declared.entry.PageEntry.TheVariants.{Absent}
-use Rattle.soft_mmu.specs.Entries.{entry_of, pages_of, is_present, HasPage}
+use Rattle.soft_mmu.specs.Entries.{table_entry, region_entries, is_present, HasPage}
 use Rattle.page_buffer.specs.Buffers.{BufferSeen}
 use Rattle.page_model.specs.Core.{Core, Resident, page_at, pick_of, can_leave, dirties, is_dirty, is_home, is_writing}
 use Rattle.page_model.specs.Core as core
@@ -22,7 +22,7 @@ use Rattle.stripe_core.proofs.Looks.{found, page_key}
 -- the keys of the pages that are seen are the buffer's
 pub keys_seen : (t : Table) (b : BufferSeen) (ks : List Key) → map (λ (r : Resident). r.key) (map (page_seen t b) ks) ≡ ks
 keys_seen t b [] = refl
-keys_seen t b (k ∷ ks) = let here = page_key b k (entry_of t k) in let rest = keys_seen t b ks in cc (here, rest)
+keys_seen t b (k ∷ ks) = let here = page_key b k (table_entry t k) in let rest = keys_seen t b ks in cc (here, rest)
 
 either : (b : Bool) → (b || true) ≡ true
 either true = refl
@@ -61,15 +61,15 @@ found_in p (j ∷ js) k e = go (p j) (found_in p js k) e
     go false ih e = ap (λ b. same j k || b) (ih e) ∙ either (same j k)
 
 -- a page that is present is one of the table's
-pub present_has : (t : Table) (k : Key) → is_present (entry_of t k) ≡ true → HasPage t k
+pub present_has : (t : Table) (k : Key) → is_present (table_entry t k) ≡ true → HasPage t k
 present_has t k e = record {
   region = elim (cases_lt k.region (length t)) [
     | inl lt ↦ lt
-    | inr past ↦ let none : entry_of t k ≡ Absent = ap (λ (row : List PageEntry). get_or row k.page Absent) (get_or_past t k.region [] past) in let out : is_present (entry_of t k) ≡ false = ap is_present none in absurd cc
+    | inr past ↦ let none : table_entry t k ≡ Absent = ap (λ (row : List PageEntry). get_or row k.page Absent) (get_or_past t k.region [] past) in let out : is_present (table_entry t k) ≡ false = ap is_present none in absurd cc
   ];
-  page = elim (cases_lt k.page (length (pages_of t k.region))) [
+  page = elim (cases_lt k.page (length (region_entries t k.region))) [
     | inl lt ↦ lt
-    | inr past ↦ let none : entry_of t k ≡ Absent = get_or_past (pages_of t k.region) k.page Absent past in let out : is_present (entry_of t k) ≡ false = ap is_present none in absurd cc
+    | inr past ↦ let none : table_entry t k ≡ Absent = get_or_past (region_entries t k.region) k.page Absent past in let out : is_present (table_entry t k) ≡ false = ap is_present none in absurd cc
   ];
 }
 
@@ -99,7 +99,7 @@ pub picks_seen : (c : Core) (t : Table) (b : BufferSeen) (test : Resident → Bo
     → ((k : Key) → page_at c k ≡ Some (page_seen t b k) → test (page_seen t b k) ≡ by_key k) → o ≡ find by_key b.residents
     → option_map (pick_at c) o ≡ option_map pick_of (find test c.pages)
 picks_seen c t b test by_key o pages agree e =
-    let all = picks c test by_key (page_seen t b) b.residents agree (λ k m. held_seen c t b k pages m) (λ k. page_key b k (entry_of t k)) in
+    let all = picks c test by_key (page_seen t b) b.residents agree (λ k m. held_seen c t b k pages m) (λ k. page_key b k (table_entry t k)) in
     ap (option_map (pick_at c)) e ∙ (sym all ∙ ap (λ ps. option_map pick_of (find test ps)) pages)
 
 -- ---- the page at a place in the order
@@ -113,7 +113,7 @@ pub got_pick : (c : Core) (t : Table) (b : BufferSeen) (i : ℕ) (k : Key) → p
 got_pick c t b i k pages e =
     let there = held_seen c t b k pages (got_in b.residents i k e) in
     let bit : is_dirty c k ≡ (page_seen t b k).dirty = ap dirties there in
-    let made : pick_of (page_seen t b k) ≡ pick_at c k = λ j. record { key = page_key b k (entry_of t k) j; dirty = sym bit j } in
+    let made : pick_of (page_seen t b k) ≡ pick_at c k = λ j. record { key = page_key b k (table_entry t k) j; dirty = sym bit j } in
     ap (λ ps. option_map pick_of (slice_get ps i)) (sym pages) ∙ (ap (option_map pick_of) (slice_get-map (page_seen t b) b.residents i) ∙ (ap (λ x. option_map pick_of (option_map (page_seen t b) x)) e ∙ ap (λ p. Some p) made))
 
 pub got_none : (c : Core) (t : Table) (b : BufferSeen) (i : ℕ) → pages_seen t b ≡ c.pages → slice_get b.residents i ≡ None → None ≡ option_map pick_of (slice_get c.pages i)

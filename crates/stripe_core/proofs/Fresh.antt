@@ -11,11 +11,11 @@ use Rattle.page_base.specs.declared.keys.Key.{Key}
 use Rattle.page_base.specs.declared.keys.RegionShape.{RegionShape}
 use Rattle.soft_mmu.specs.declared.entry.PageEntry.{PageEntry}
 use Rattle.soft_mmu.specs.declared.entry.PageEntry.TheVariants.{Absent}
-use Rattle.soft_mmu.specs.Entries.{entry_of, HasPage, no_pages}
+use Rattle.soft_mmu.specs.Entries.{table_entry, HasPage, no_pages}
 use Rattle.soft_mmu.specs.Entries as table
 use Rattle.page_buffer.specs.Frames.{Free, resident_key, is_reserved}
 use Rattle.page_buffer.specs.Buffers.{BufferSeen}
-use Rattle.page_model.specs.Setups.{Setup, Fits, quota, has_page, is_page_of, base_of, told_by, pages_of}
+use Rattle.page_model.specs.Setups.{Setup, Fits, quota, has_page, is_page_of, base_of, told_in, pages_of}
 use Rattle.page_model.specs.Steps.{fresh_regions, fresh}
 use Rattle.page_model.specs.Tallies.{no_counts}
 use Rattle.fault_queue.specs.Queues.{QueueSeen}
@@ -33,7 +33,7 @@ use Rattle.stripe_core.proofs.Counted.{count_cons}
 
 -- ---- nothing is resident, kept or out
 
-rows_absent : (shapes : List RegionShape) (r : ℕ) → (n : ℕ) × (table.pages_of (no_pages shapes) r ≡ replicate n Absent)
+rows_absent : (shapes : List RegionShape) (r : ℕ) → (n : ℕ) × (table.region_entries (no_pages shapes) r ≡ replicate n Absent)
 rows_absent [] r = (0, refl)
 rows_absent (s ∷ shapes) zero = (s.pages, refl)
 rows_absent (s ∷ shapes) (suc r) = rows_absent shapes r
@@ -43,7 +43,7 @@ replicated zero i x = refl
 replicated (suc n) zero x = refl
 replicated (suc n) (suc i) x = replicated n i x
 
-pub none_present : (shapes : List RegionShape) (k : Key) → entry_of (no_pages shapes) k ≡ Absent
+pub none_present : (shapes : List RegionShape) (k : Key) → table_entry (no_pages shapes) k ≡ Absent
 none_present shapes k =
     let row = rows_absent shapes k.region in
     ap (λ (xs : List PageEntry). get_or xs k.page Absent) row.1 ∙ replicated row.0 k.page Absent
@@ -69,7 +69,7 @@ pub fresh_tied : {S : Type 0} (shapes : List RegionShape) (page_size n : ℕ) (l
     → Tied (no_pages shapes) (record { page_size = page_size; frames = replicate n Free; residents = [] }) (reads_of (regions_made lanes faults))
 fresh_tied shapes page_size n lanes faults = record {
   residents = λ k. sym (ap (λ e. is_some (frame_in e)) (none_present shapes k));
-  entries = λ k f e. let none : frame_in (entry_of (no_pages shapes) k) ≡ None = ap frame_in (none_present shapes k) in absurd cc;
+  entries = λ k f e. let none : frame_in (table_entry (no_pages shapes) k) ≡ None = ap frame_in (none_present shapes k) in absurd cc;
   frames = λ f k e. let none : resident_key (get_or (replicate n Free) f Free) ≡ None = ap resident_key (replicated n f Free) in absurd cc;
   kept = λ f k e. let none : reserved_key (get_or (replicate n Free) f Free) ≡ None = ap reserved_key (replicated n f Free) in absurd cc;
   reads = λ r o e. let none = none_out lanes faults r in absurd cc;
@@ -112,7 +112,7 @@ shape_there : (s : Setup) (k : Key) (x : Option RegionShape) → is_page_of s x 
 shape_there s k None e = absurd cc
 shape_there s k (Some shape) e = (shape, refl, ltb-true k.page shape.pages (and_parts _ _ e).0)
 
-row_is : (shapes : List RegionShape) (r : ℕ) (s : RegionShape) → slice_get shapes r ≡ Some s → table.pages_of (no_pages shapes) r ≡ replicate s.pages Absent
+row_is : (shapes : List RegionShape) (r : ℕ) (s : RegionShape) → slice_get shapes r ≡ Some s → table.region_entries (no_pages shapes) r ≡ replicate s.pages Absent
 row_is [] r s e = absurd cc
 row_is (x ∷ shapes) zero s e = let same_shape : x ≡ s = cc in ap (λ (y : RegionShape). replicate y.pages Absent) same_shape
 row_is (x ∷ shapes) (suc r) s e = row_is shapes r s e
@@ -151,7 +151,7 @@ setup_fits {S} seen c lanes can frames size small whole = record {
         absurd cc
     go k bytes shape is (Some s) here base =
         let lane : slice_get (map seen lanes) k.region ≡ Some (seen s) = slice_get-map seen lanes k.region ∙ ap (option_map seen) here in
-        let told : told_at (seen s).told k.page ≡ Some bytes = sym (ap (λ x. told_by x k.page) lane) ∙ base in
+        let told : told_at (seen s).told k.page ≡ Some bytes = sym (ap (λ x. told_in x k.page) lane) ∙ base in
         let size_is : (seen s).origin.page_size ≡ c.layout.page_size = (can.lanes k.region shape (seen s) is lane).page_size in
         let P : Option (List ℕ) → Type 0 = λ t. IfSome t (λ b. length b ≡ (seen s).origin.page_size) in
         let whole_page : length bytes ≡ (seen s).origin.page_size = subst P told (whole s k.page) in

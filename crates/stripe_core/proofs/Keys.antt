@@ -6,7 +6,7 @@ use Rattle.page_base.specs.Pages.{same}
 use Rattle.page_base.specs.declared.keys.Key.{Key}
 use Rattle.soft_mmu.specs.declared.entry.PageEntry.{PageEntry}
 use Rattle.soft_mmu.specs.declared.entry.PageEntry.TheVariants.{Absent}
-use Rattle.soft_mmu.specs.Entries.{entry_of, pages_of, with_entry, HasPage}
+use Rattle.soft_mmu.specs.Entries.{table_entry, region_entries, with_entry, HasPage}
 use Rattle.page_buffer.specs.Frames.{FrameSeen, Free, resident_key}
 use Rattle.page_buffer.specs.Buffers.{BufferSeen, frame_of, with_frame}
 use Rattle.stripe_core.specs.Parts.{Table}
@@ -27,19 +27,19 @@ not_same a b n = false_from_ne_true (same a b) (λ e. n (same-true a b e))
 
 -- ---- entries
 
-row_same : (t : Table) (j : Key) (e : PageEntry) → HasPage t j → pages_of (with_entry t j e) j.region ≡ set (pages_of t j.region) j.page e
-row_same t j e h = get_or-set_same t j.region (set (pages_of t j.region) j.page e) [] h.region
+row_same : (t : Table) (j : Key) (e : PageEntry) → HasPage t j → region_entries (with_entry t j e) j.region ≡ set (region_entries t j.region) j.page e
+row_same t j e h = get_or-set_same t j.region (set (region_entries t j.region) j.page e) [] h.region
 
-pub entry_set : (t : Table) (j : Key) (e : PageEntry) → HasPage t j → entry_of (with_entry t j e) j ≡ e
-entry_set t j e h = ap (λ (row : List PageEntry). get_or row j.page Absent) (row_same t j e h) ∙ get_or-set_same (pages_of t j.region) j.page e Absent h.page
+pub entry_set : (t : Table) (j : Key) (e : PageEntry) → HasPage t j → table_entry (with_entry t j e) j ≡ e
+entry_set t j e h = ap (λ (row : List PageEntry). get_or row j.page Absent) (row_same t j e h) ∙ get_or-set_same (region_entries t j.region) j.page e Absent h.page
 
-pub entry_kept : (t : Table) (j k : Key) (e : PageEntry) → HasPage t j → (j ≡ k → ⊥) → entry_of (with_entry t j e) k ≡ entry_of t k
+pub entry_kept : (t : Table) (j k : Key) (e : PageEntry) → HasPage t j → (j ≡ k → ⊥) → table_entry (with_entry t j e) k ≡ table_entry t k
 entry_kept t j k e h n = elim (cases_eq k.region j.region) [
   | inl r ↦
       let p : k.page ≡ j.page → ⊥ = λ p. n (λ i. record { region = sym r i; page = sym p i }) in
-      let row : pages_of (with_entry t j e) k.region ≡ set (pages_of t k.region) j.page e = rw r (row_same t j e h) in
-      ap (λ (xs : List PageEntry). get_or xs k.page Absent) row ∙ get_or-set_other (pages_of t k.region) j.page k.page e Absent p
-  | inr o ↦ ap (λ (row : List PageEntry). get_or row k.page Absent) (get_or-set_other t j.region k.region (set (pages_of t j.region) j.page e) [] o)
+      let row : region_entries (with_entry t j e) k.region ≡ set (region_entries t k.region) j.page e = rw r (row_same t j e h) in
+      ap (λ (xs : List PageEntry). get_or xs k.page Absent) row ∙ get_or-set_other (region_entries t k.region) j.page k.page e Absent p
+  | inr o ↦ ap (λ (row : List PageEntry). get_or row k.page Absent) (get_or-set_other t j.region k.region (set (region_entries t j.region) j.page e) [] o)
 ]
 
 length-set' : {A : Type 0} (xs : List A) (i : ℕ) (x : A) → length (set xs i x) ≡ length xs
@@ -50,13 +50,13 @@ length-set' (y ∷ ys) (suc i) x = ap suc (length-set' ys i x)
 -- a change of one entry keeps which pages the table has
 pub page_kept : (t : Table) (j k : Key) (e : PageEntry) → HasPage t j → HasPage t k → HasPage (with_entry t j e) k
 page_kept t j k e h there = record {
-  region = rw (length-set' t j.region (set (pages_of t j.region) j.page e)) there.region;
+  region = rw (length-set' t j.region (set (region_entries t j.region) j.page e)) there.region;
   page = elim (cases_eq k.region j.region) [
     | inl r ↦
-        let row : pages_of (with_entry t j e) k.region ≡ set (pages_of t k.region) j.page e = rw r (row_same t j e h) in
-        rw (row, length-set' (pages_of t k.region) j.page e) there.page
+        let row : region_entries (with_entry t j e) k.region ≡ set (region_entries t k.region) j.page e = rw r (row_same t j e h) in
+        rw (row, length-set' (region_entries t k.region) j.page e) there.page
     | inr o ↦
-        let row : pages_of (with_entry t j e) k.region ≡ pages_of t k.region = get_or-set_other t j.region k.region (set (pages_of t j.region) j.page e) [] o in
+        let row : region_entries (with_entry t j e) k.region ≡ region_entries t k.region = get_or-set_other t j.region k.region (set (region_entries t j.region) j.page e) [] o in
         rw row there.page
   ];
 }

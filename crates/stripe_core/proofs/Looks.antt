@@ -9,7 +9,7 @@ use Rattle.soft_mmu.specs.declared.entry.PageEntry.TheVariants.{Absent, Present}
 use Rattle.soft_mmu.specs.declared.entry.Wants.{Wants}
 use Rattle.soft_mmu.specs.declared.entry.Wants.TheVariants as wants
 use Rattle.soft_mmu.specs.declared.entry.Found.TheVariants.{Hit, Missing, Protected}
-use Rattle.soft_mmu.specs.Entries.{entry_of, translation, bits_of}
+use Rattle.soft_mmu.specs.Entries.{table_entry, translation, bits_of}
 use Rattle.page_buffer.specs.Frames.{FrameSeen, Free, Reserved, resident_key, is_resident, bytes_of}
 use Rattle.page_buffer.specs.Frames as frame
 use Rattle.page_buffer.specs.Buffers.{BufferSeen, frame_of}
@@ -34,7 +34,7 @@ page_key b k (Present protected dirty f) = refl
 -- the page among the resident ones
 pub found : (t : Table) (b : BufferSeen) (k : Key) (ks : List Key) → find (λ (r : Resident). same r.key k) (map (page_seen t b) ks) ≡ cond (is_in k ks) (Some (page_seen t b k)) None
 found t b k [] = refl
-found t b k (j ∷ ks) = let key : (page_seen t b j).key ≡ j = page_key b j (entry_of t j) in rw key (go (same j k) refl (found t b k ks))
+found t b k (j ∷ ks) = let key : (page_seen t b j).key ≡ j = page_key b j (table_entry t j) in rw key (go (same j k) refl (found t b k ks))
   where
     go : (x : Bool) → same j k ≡ x → find (λ (r : Resident). same r.key k) (map (page_seen t b) ks) ≡ cond (is_in k ks) (Some (page_seen t b k)) None
         → cond x (Some (page_seen t b j)) (find (λ (r : Resident). same r.key k) (map (page_seen t b) ks)) ≡ cond (x || is_in k ks) (Some (page_seen t b k)) None
@@ -50,8 +50,8 @@ at_is b k Absent = refl
 at_is b k (Present protected dirty f) = refl
 
 -- a page is resident where its entry is present, with the entry's bits and the frame's bytes
-pub page_is : (t : Table) (b : BufferSeen) (outs : List (Option ReadOut)) (k : Key) → Tied t b outs → find (λ (r : Resident). same r.key k) (pages_seen t b) ≡ at_entry b k (entry_of t k)
-page_is t b outs k tied = found t b k b.residents ∙ (ap (λ x. cond x (Some (page_seen t b k)) None) (tied.residents k) ∙ at_is b k (entry_of t k))
+pub page_is : (t : Table) (b : BufferSeen) (outs : List (Option ReadOut)) (k : Key) → Tied t b outs → find (λ (r : Resident). same r.key k) (pages_seen t b) ≡ at_entry b k (table_entry t k)
+page_is t b outs k tied = found t b k b.residents ∙ (ap (λ x. cond x (Some (page_seen t b k)) None) (tied.residents k) ∙ at_is b k (table_entry t k))
 
 -- ---- what an access finds
 
@@ -85,7 +85,7 @@ protected_held (Present true d g) e = (d, g, refl)
 protected_held (Present false d g) e = absurd cc
 
 -- a present page's frame holds it
-pub holds_page : (t : Table) (b : BufferSeen) (outs : List (Option ReadOut)) (k : Key) (p d : Bool) (f : ℕ) → Tied t b outs → entry_of t k ≡ Present p d f → resident_key (frame_of b f) ≡ Some k
+pub holds_page : (t : Table) (b : BufferSeen) (outs : List (Option ReadOut)) (k : Key) (p d : Bool) (f : ℕ) → Tied t b outs → table_entry t k ≡ Present p d f → resident_key (frame_of b f) ≡ Some k
 holds_page t b outs k p d f tied e = tied.entries k f (ap frame_in e)
 
 pub is_held : (x : FrameSeen) (k : Key) → resident_key x ≡ Some k → is_resident x ≡ true
@@ -142,7 +142,7 @@ save_hits c k hit = let all = go (is_closing c k.region) (is_present c k) (is_gu
 
 -- ---- readers
 
-pub at_now : (c : Core) (t : Table) (b : BufferSeen) (outs : List (Option ReadOut)) (k : Key) → Tied t b outs → pages_seen t b ≡ c.pages → page_at c k ≡ at_entry b k (entry_of t k)
+pub at_now : (c : Core) (t : Table) (b : BufferSeen) (outs : List (Option ReadOut)) (k : Key) → Tied t b outs → pages_seen t b ≡ c.pages → page_at c k ≡ at_entry b k (table_entry t k)
 at_now c t b outs k tied pages = ap (find (λ (r : Resident). same r.key k)) (sym pages) ∙ page_is t b outs k tied
 
 pub present_bit : (c : Core) (b : BufferSeen) (k : Key) (e : PageEntry) → page_at c k ≡ at_entry b k e → (bits_of e).present ≡ is_present c k

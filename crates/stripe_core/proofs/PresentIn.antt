@@ -9,7 +9,7 @@ use Rattle.page_base.specs.Pages.{same}
 use Rattle.page_base.specs.declared.keys.Key.{Key}
 use Rattle.soft_mmu.specs.declared.entry.PageEntry.{PageEntry}
 use Rattle.soft_mmu.specs.declared.entry.PageEntry.TheVariants.{Absent, Present}
-use Rattle.soft_mmu.specs.Entries.{entry_of, is_present, pages_of}
+use Rattle.soft_mmu.specs.Entries.{table_entry, is_present, region_entries}
 use Rattle.page_buffer.specs.Buffers.{BufferSeen}
 use Rattle.page_model.specs.Residents.{is_in}
 use Rattle.stripe_core.specs.Parts.{Table}
@@ -58,19 +58,19 @@ in_region (x ∷ xs) r e = elim (or_cases (of_region r x) (list_any (of_region r
   | inr later ↦ let k = in_region xs r later in (k.0, (k.1.0, or_right (same x k.0) (is_in k.0 xs) k.1.1))
 ]
 
-pub present_any : (t : Table) (b : BufferSeen) (outs : List (Option ReadOut)) (r : ℕ) → Tied t b outs → nat_lt 0 (count_by is_present (pages_of t r)) ≡ list_any (of_region r) b.residents
+pub present_any : (t : Table) (b : BufferSeen) (outs : List (Option ReadOut)) (r : ℕ) → Tied t b outs → nat_lt 0 (count_by is_present (region_entries t r)) ≡ list_any (of_region r) b.residents
 present_any t b outs r tied = elim (cases_Bool (list_any (of_region r) b.residents)) [
   | inl there ↦
       let k = in_region b.residents r there in
-      let named : is_some (frame_in (entry_of t k.0)) ≡ true = sym (tied.residents k.0) ∙ k.1.1 in
-      let present : is_present (get_or (pages_of t r) k.0.page Absent) ≡ true = ap (λ n. is_present (get_or (pages_of t n) k.0.page Absent)) (sym k.1.0) ∙ (sym (named_present (entry_of t k.0)) ∙ named) in
-      let lt = count_some (pages_of t r) k.0.page present in
-      lt_true (count_by is_present (pages_of t r)) lt ∙ sym there
+      let named : is_some (frame_in (table_entry t k.0)) ≡ true = sym (tied.residents k.0) ∙ k.1.1 in
+      let present : is_present (get_or (region_entries t r) k.0.page Absent) ≡ true = ap (λ n. is_present (get_or (region_entries t n) k.0.page Absent)) (sym k.1.0) ∙ (sym (named_present (table_entry t k.0)) ∙ named) in
+      let lt = count_some (region_entries t r) k.0.page present in
+      lt_true (count_by is_present (region_entries t r)) lt ∙ sym there
   | inr gone ↦
-      none_lt (count_by is_present (pages_of t r)) (λ lt.
-      let found = some_counted (pages_of t r) lt in
+      none_lt (count_by is_present (region_entries t r)) (λ lt.
+      let found = some_counted (region_entries t r) lt in
       let k : Key = record { region = r; page = found.0 } in
-      let named : is_some (frame_in (entry_of t k)) ≡ true = named_present (entry_of t k) ∙ found.1 in
+      let named : is_some (frame_in (table_entry t k)) ≡ true = named_present (table_entry t k) ∙ found.1 in
       let here : list_any (of_region r) b.residents ≡ true = region_in b.residents k r refl (tied.residents k ∙ named) in
       let no : true ≡ false = sym here ∙ gone in cc)
       ∙ sym gone

@@ -9,7 +9,7 @@ use Rattle.page_base.specs.Pages.{same}
 use Rattle.page_base.specs.declared.keys.Key.{Key}
 use Rattle.soft_mmu.specs.declared.entry.PageEntry.{PageEntry}
 use Rattle.soft_mmu.specs.declared.entry.PageEntry.TheVariants.{Absent, Present}
-use Rattle.soft_mmu.specs.Entries.{entry_of, with_entry, HasPage}
+use Rattle.soft_mmu.specs.Entries.{table_entry, with_entry, HasPage}
 use Rattle.page_buffer.specs.Frames.{FrameSeen, Free, Reserved, resident_key, is_reserved, is_resident, bytes_of, page_of}
 use Rattle.page_buffer.specs.Frames as frame
 use Rattle.page_buffer.specs.Buffers.{BufferSeen, frame_of, with_frame, filled, reserved_frames}
@@ -150,7 +150,7 @@ pub filled_is : (b : BufferSeen) (f : ℕ) (k : Key) (bytes : List ℕ) → fram
 filled_is b f k bytes is = ap (λ x. filled_with b f (page_of x) bytes) is
 
 -- the page is read in
-pub fill_tied : (t : Table) (b : BufferSeen) (outs : List (Option ReadOut)) (k : Key) (f : ℕ) (p d : Bool) (bytes : List ℕ) → Tied t b outs → KeptFor b outs k f → HasPage t k → entry_of t k ≡ Absent
+pub fill_tied : (t : Table) (b : BufferSeen) (outs : List (Option ReadOut)) (k : Key) (f : ℕ) (p d : Bool) (bytes : List ℕ) → Tied t b outs → KeptFor b outs k f → HasPage t k → table_entry t k ≡ Absent
     → Tied (with_entry t k (Present p d f)) (filled_with b f k bytes) (set outs k.region None)
 fill_tied t b outs k f p d bytes tied kept has absent =
     let x : FrameSeen = frame.Resident k bytes in
@@ -161,20 +161,20 @@ fill_tied t b outs k f p d bytes tied kept has absent =
       residents = λ j. list_any-append (λ i. same i j) b.residents (k ∷ []) ∙ elim (cases_Bool (same k j)) [
         | inl s ↦
             let kj : k ≡ j = same-true k j s in
-            let now : is_some (frame_in (entry_of (with_entry t k e) j)) ≡ true = rw (← kj) (ap (λ y. is_some (frame_in y)) (entry_set t k e has)) in
+            let now : is_some (frame_in (table_entry (with_entry t k e) j)) ≡ true = rw (← kj) (ap (λ y. is_some (frame_in y)) (entry_set t k e has)) in
             rw (s, now) (either (is_in j b.residents))
         | inr n ↦
-            let now : entry_of (with_entry t k e) j ≡ entry_of t j = entry_kept t k j e has (λ kj. let s : same k j ≡ true = rw (← kj) (same_self k) in cc) in
+            let now : table_entry (with_entry t k e) j ≡ table_entry t j = entry_kept t k j e has (λ kj. let s : same k j ≡ true = rw (← kj) (same_self k) in cc) in
             rw (n, now) (alone (is_in j b.residents) ∙ tied.residents j)
       ];
       entries = λ j g i. elim (cases_Bool (same k j)) [
         | inl s ↦
             let kj : k ≡ j = same-true k j s in
-            let now : frame_in (entry_of (with_entry t k e) j) ≡ Some f = rw (← kj) (ap frame_in (entry_set t k e has)) in
+            let now : frame_in (table_entry (with_entry t k e) j) ≡ Some f = rw (← kj) (ap frame_in (entry_set t k e has)) in
             let fg : f ≡ g = cc in
             rw (← fg) (ap resident_key here ∙ ap (λ y. Some y) kj)
         | inr n ↦
-            let now : entry_of (with_entry t k e) j ≡ entry_of t j = entry_kept t k j e has (λ kj. let s : same k j ≡ true = rw (← kj) (same_self k) in cc) in
+            let now : table_entry (with_entry t k e) j ≡ table_entry t j = entry_kept t k j e has (λ kj. let s : same k j ≡ true = rw (← kj) (same_self k) in cc) in
             let held = tied.entries j g (sym (ap frame_in now) ∙ i) in
             ap resident_key (frame_kept b f g x (holds_none b f g j none held)) ∙ held
       ];
@@ -185,7 +185,7 @@ fill_tied t b outs k f p d bytes tied kept has absent =
             rw (← kj) (ap frame_in (entry_set t k e has) ∙ ap (λ y. Some y) (sym gf))
         | inr n ↦
             let was = tied.frames g j (sym (ap resident_key (frame_kept b f g x n)) ∙ i) in
-            ap frame_in (entry_kept t k j e has (λ kj. let gone : frame_in (entry_of t j) ≡ None = rw (← kj) (ap frame_in absent) in cc)) ∙ was
+            ap frame_in (entry_kept t k j e has (λ kj. let gone : frame_in (table_entry t j) ≡ None = rw (← kj) (ap frame_in absent) in cc)) ∙ was
       ];
       kept = ended_kept t b outs k f x tied kept refl;
       reads = ended_reads t b outs k f x tied kept;
@@ -209,11 +209,11 @@ pages_kept t b outs f x tied none = each b.residents
     each : (ks : List Key) → map (page_seen t (with_frame b f x)) ks ≡ map (page_seen t b) ks
     each [] = refl
     each (j ∷ js) =
-        let here : page_seen t (with_frame b f x) j ≡ page_seen t b j = page_as b (with_frame b f x) j (entry_of t j) (λ g e. frame_kept b f g x (holds_none b f g j none (tied.entries j g e))) in
+        let here : page_seen t (with_frame b f x) j ≡ page_seen t b j = page_as b (with_frame b f x) j (table_entry t j) (λ g e. frame_kept b f g x (holds_none b f g j none (tied.entries j g e))) in
         let rest = each js in cc (here, rest)
 
 -- the page that is read in is the newest
-pub pages_filled : (t : Table) (b : BufferSeen) (outs : List (Option ReadOut)) (k : Key) (f : ℕ) (p d : Bool) (bytes : List ℕ) → Tied t b outs → KeptFor b outs k f → HasPage t k → entry_of t k ≡ Absent
+pub pages_filled : (t : Table) (b : BufferSeen) (outs : List (Option ReadOut)) (k : Key) (f : ℕ) (p d : Bool) (bytes : List ℕ) → Tied t b outs → KeptFor b outs k f → HasPage t k → table_entry t k ≡ Absent
     → pages_seen (with_entry t k (Present p d f)) (filled_with b f k bytes) ≡ pages_seen t b ++ record { key = k; protected = p; dirty = d; bytes = bytes } ∷ []
 pages_filled t b outs k f p d bytes tied kept has absent =
     let x : FrameSeen = frame.Resident k bytes in
@@ -221,7 +221,7 @@ pages_filled t b outs k f p d bytes tied kept has absent =
     let none : resident_key (frame_of b f) ≡ None = (is_kept (frame_of b f) k kept.frame).1 in
     let out : is_in k b.residents ≡ false = tied.residents k ∙ ap (λ y. is_some (frame_in y)) absent in
     let other : (j : Key) → (k ≡ j → ⊥) → page_seen (with_entry t k e) (with_frame b f x) j ≡ page_seen t b j =
-    λ j n. ap (page_in (with_frame b f x) j) (entry_kept t k j e has n) ∙ page_as b (with_frame b f x) j (entry_of t j) (λ g i. frame_kept b f g x (holds_none b f g j none (tied.entries j g i))) in
+    λ j n. ap (page_in (with_frame b f x) j) (entry_kept t k j e has n) ∙ page_as b (with_frame b f x) j (table_entry t j) (λ g i. frame_kept b f g x (holds_none b f g j none (tied.entries j g i))) in
     let new : page_seen (with_entry t k e) (with_frame b f x) k ≡ record { key = k; protected = p; dirty = d; bytes = bytes } =
     ap (page_in (with_frame b f x) k) (entry_set t k e has) ∙ ap (λ y. record { key = k; protected = p; dirty = d; bytes = bytes_of y }) (frame_set b f x (reserved_within b f k kept.frame)) in
     map-append (page_seen (with_entry t k e) (with_frame b f x)) b.residents (k ∷ [])

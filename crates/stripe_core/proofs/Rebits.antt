@@ -5,7 +5,7 @@ use Rattle.page_base.specs.Pages.{same}
 use Rattle.page_base.specs.declared.keys.Key.{Key}
 use Rattle.soft_mmu.specs.declared.entry.PageEntry.{PageEntry}
 use Rattle.soft_mmu.specs.declared.entry.PageEntry.TheVariants.{Absent, Present}
-use Rattle.soft_mmu.specs.Entries.{entry_of, with_entry, HasPage, is_present, is_protected, opened, closed, cleaned, bits_of}
+use Rattle.soft_mmu.specs.Entries.{table_entry, with_entry, HasPage, is_present, is_protected, opened, closed, cleaned, bits_of}
 use Rattle.page_buffer.specs.Buffers.{BufferSeen}
 use Rattle.page_model.specs.Core.{Resident, protects, dirties}
 use Rattle.page_model.specs.Steps.{on_page}
@@ -16,13 +16,13 @@ use Rattle.stripe_core.proofs.Looks.{at_entry}
 use Rattle.stripe_core.proofs.Ties.{SameFrames, pages_changed, one_changes}
 
 -- the page keeps its frame
-pub entry_same : (t : Table) (b : BufferSeen) (k : Key) (e : PageEntry) → HasPage t k → frame_in e ≡ frame_in (entry_of t k) → SameFrames t (with_entry t k e) b b
+pub entry_same : (t : Table) (b : BufferSeen) (k : Key) (e : PageEntry) → HasPage t k → frame_in e ≡ frame_in (table_entry t k) → SameFrames t (with_entry t k e) b b
 entry_same t b k e has is = record {
   residents = refl;
   entries = λ j. elim (cases_Bool (same k j)) [
     | inl s ↦
         let kj : k ≡ j = same-true k j s in
-        let P : Key → Type 0 = λ i. frame_in (entry_of (with_entry t k e) i) ≡ frame_in (entry_of t i) in
+        let P : Key → Type 0 = λ i. frame_in (table_entry (with_entry t k e) i) ≡ frame_in (table_entry t i) in
         subst P kj (ap frame_in (entry_set t k e has) ∙ is)
     | inr n ↦ ap frame_in (entry_kept t k j e has (λ kj. let s : same k j ≡ true = rw (sym kj) (same_self k) in cc))
   ];
@@ -33,7 +33,7 @@ entry_same t b k e has is = record {
 
 -- the page changes as the core says
 pub entry_changes : (t : Table) (b : BufferSeen) (k : Key) (e : PageEntry) (change : Resident → Resident) → HasPage t k
-    → page_in b k e ≡ change (page_in b k (entry_of t k)) → pages_seen (with_entry t k e) b ≡ on_page k change (pages_seen t b)
+    → page_in b k e ≡ change (page_in b k (table_entry t k)) → pages_seen (with_entry t k e) b ≡ on_page k change (pages_seen t b)
 entry_changes t b k e change has is =
     let new : Table = with_entry t k e in
     let here : page_seen new b k ≡ change (page_seen t b k) = ap (page_in b k) (entry_set t k e has) ∙ is in
@@ -87,11 +87,11 @@ dirty_present b k Absent h = absurd cc
 dirty_present b k (Present p d f) h = refl
 
 -- a page that is open stays as it is
-pub open_stays : (t : Table) (b : BufferSeen) (k : Key) → (bits_of (entry_of t k)).protected ≡ false → pages_seen t b ≡ on_page k (λ (r : Resident). record r { dirty = r.dirty && not r.protected }) (pages_seen t b)
+pub open_stays : (t : Table) (b : BufferSeen) (k : Key) → (bits_of (table_entry t k)).protected ≡ false → pages_seen t b ≡ on_page k (λ (r : Resident). record r { dirty = r.dirty && not r.protected }) (pages_seen t b)
 open_stays t b k calm =
     let change : Resident → Resident = λ r. record r { dirty = r.dirty && not r.protected } in
     pages_changed k change (page_seen t b) (page_seen t b) b.residents
-    (λ j. one_changes t t b b k change j (here (entry_of t k) calm) (λ n. refl))
+    (λ j. one_changes t t b b k change j (here (table_entry t k) calm) (λ n. refl))
   where
     here : (e : PageEntry) → (bits_of e).protected ≡ false → page_in b k e ≡ record (page_in b k e) { dirty = (page_in b k e).dirty && not (page_in b k e).protected }
     here Absent h = refl

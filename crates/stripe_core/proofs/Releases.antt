@@ -5,7 +5,7 @@ use Rattle.std.specs.Option.{is_some}
 use Rattle.page_base.specs.Pages.{same}
 use Rattle.page_base.specs.declared.keys.Key.{Key}
 use Rattle.soft_mmu.specs.declared.entry.PageEntry.TheVariants.{Absent}
-use Rattle.soft_mmu.specs.Entries.{entry_of, with_entry, HasPage}
+use Rattle.soft_mmu.specs.Entries.{table_entry, with_entry, HasPage}
 use Rattle.page_buffer.specs.Frames.{FrameSeen, Free, Reserved, resident_key, is_reserved, page_of}
 use Rattle.page_buffer.specs.Frames as frame
 use Rattle.page_buffer.specs.Buffers.{BufferSeen, frame_of, with_frame, released, without}
@@ -55,7 +55,7 @@ holds Free k e = absurd cc
 holds (Reserved j) k e = absurd cc
 holds (frame.Resident j bytes) k e = (cc, refl, refl)
 
-pub release_tied : (t : Table) (b : BufferSeen) (outs : List (Option ReadOut)) (k : Key) (f : ℕ) → Tied t b outs → HasPage t k → frame_in (entry_of t k) ≡ Some f → Tied (with_entry t k Absent) (released b f) outs
+pub release_tied : (t : Table) (b : BufferSeen) (outs : List (Option ReadOut)) (k : Key) (f : ℕ) → Tied t b outs → HasPage t k → frame_in (table_entry t k) ≡ Some f → Tied (with_entry t k Absent) (released b f) outs
 release_tied t b outs k f tied has is =
     let held : resident_key (frame_of b f) ≡ Some k = tied.entries k f is in
     let within = resident_within b f k held in
@@ -66,25 +66,25 @@ release_tied t b outs k f tied has is =
       residents = λ j. rw what.0 (elim (cases_Bool (same k j)) [
         | inl s ↦
             let kj : k ≡ j = same-true k j s in
-            let none : frame_in (entry_of (with_entry t k Absent) k) ≡ None = ap frame_in (entry_set t k Absent has) in
-            let P : Key → Type 0 = λ i. is_in i (without k b.residents) ≡ is_some (frame_in (entry_of (with_entry t k Absent) i)) in
+            let none : frame_in (table_entry (with_entry t k Absent) k) ≡ None = ap frame_in (entry_set t k Absent has) in
+            let P : Key → Type 0 = λ i. is_in i (without k b.residents) ≡ is_some (frame_in (table_entry (with_entry t k Absent) i)) in
             subst P kj (gone k b.residents ∙ sym (ap is_some none))
         | inr n ↦ others_stay j k b.residents n ∙ (tied.residents j ∙ sym (ap (λ y. is_some (frame_in y)) (entry_kept t k j Absent has (apart j n))))
       ]);
       entries = λ j g e. elim (cases_Bool (same k j)) [
         | inl s ↦
             let kj : k ≡ j = same-true k j s in
-            let none : frame_in (entry_of (with_entry t k Absent) j) ≡ None = rw (← kj) (ap frame_in (entry_set t k Absent has)) in
+            let none : frame_in (table_entry (with_entry t k Absent) j) ≡ None = rw (← kj) (ap frame_in (entry_set t k Absent has)) in
             absurd cc
         | inr n ↦
-            let was : frame_in (entry_of t j) ≡ Some g = sym (ap frame_in (entry_kept t k j Absent has (apart j n))) ∙ e in
+            let was : frame_in (table_entry t j) ≡ Some g = sym (ap frame_in (entry_kept t k j Absent has (apart j n))) ∙ e in
             ap resident_key (frame_kept b f g Free (frames_apart t b outs j k f g tied was held (λ jk. apart j n (sym jk)))) ∙ tied.entries j g was
       ];
       frames = λ g j e. elim (cases_eq g f) [
         | inl gf ↦ let none : resident_key (frame_of (with_frame b f Free) g) ≡ None = rw gf (ap resident_key here) in absurd cc
         | inr n ↦
-            let was : frame_in (entry_of t j) ≡ Some g = tied.frames g j (sym (ap resident_key (frame_kept b f g Free n)) ∙ e) in
-            let other : k ≡ j → ⊥ = λ kj. let again : frame_in (entry_of t j) ≡ Some f = rw (← kj) is in n (cc) in
+            let was : frame_in (table_entry t j) ≡ Some g = tied.frames g j (sym (ap resident_key (frame_kept b f g Free n)) ∙ e) in
+            let other : k ≡ j → ⊥ = λ kj. let again : frame_in (table_entry t j) ≡ Some f = rw (← kj) is in n (cc) in
             ap frame_in (entry_kept t k j Absent has other) ∙ was
       ];
       kept = λ g j e. elim (cases_eq g f) [
@@ -101,11 +101,11 @@ release_tied t b outs k f tied has is =
           omega (arith, all, bits, tied.counted);
     }
 
-pub pages_released : (t : Table) (b : BufferSeen) (outs : List (Option ReadOut)) (k : Key) (f : ℕ) → Tied t b outs → HasPage t k → frame_in (entry_of t k) ≡ Some f
+pub pages_released : (t : Table) (b : BufferSeen) (outs : List (Option ReadOut)) (k : Key) (f : ℕ) → Tied t b outs → HasPage t k → frame_in (table_entry t k) ≡ Some f
     → pages_seen (with_entry t k Absent) (released b f) ≡ without_page k (pages_seen t b)
 pages_released t b outs k f tied has is =
     let held : resident_key (frame_of b f) ≡ Some k = tied.entries k f is in
     let page : page_of (frame_of b f) ≡ k = (holds (frame_of b f) k held).0 in
-    rw page (others_seen k (page_seen (with_entry t k Absent) (released b f)) (page_seen t b) (λ j. page_key b j (entry_of t j))
-    (λ j n. ap (page_in (released b f) j) (entry_kept t k j Absent has n) ∙ page_as b (released b f) j (entry_of t j)
+    rw page (others_seen k (page_seen (with_entry t k Absent) (released b f)) (page_seen t b) (λ j. page_key b j (table_entry t j))
+    (λ j n. ap (page_in (released b f) j) (entry_kept t k j Absent has n) ∙ page_as b (released b f) j (table_entry t j)
     (λ g e. frame_kept b f g Free (frames_apart t b outs j k f g tied e held (λ jk. n (sym jk))))) b.residents)

@@ -8,7 +8,7 @@ use Rattle.page_base.specs.declared.keys.Raise.{Raise}
 use Rattle.std.specs.List.{Contains, list_all, filter}
 use Rattle.page_base.specs.Lanes.{LaneSeen}
 use Rattle.soft_mmu.specs.declared.entry.PageEntry.{PageEntry}
-use Rattle.soft_mmu.specs.Entries.{pages_of, with_entry, HasPage}
+use Rattle.soft_mmu.specs.Entries.{region_entries, with_entry, HasPage}
 use Rattle.page_buffer.specs.Frames.{FrameSeen}
 use Rattle.page_buffer.specs.Buffers.{BufferSeen, with_frame}
 use Rattle.fault_queue.specs.Queues.{QueueSeen}
@@ -28,7 +28,7 @@ resized after size frames z = record { table = z.table; rows = z.rows; page_size
 -- after a change of one entry
 pub retabled : {S : Type 0} {c : StripeConfig} {lanes : List LaneSeen} {t : Table} {b : BufferSeen} {q : QueueSeen} {gs : List (Region S)} {marks : Marks} (j : Key) (e : PageEntry)
     → HasPage t j → IsSized c lanes t b q gs marks → IsSized c lanes (with_entry t j e) b q gs marks
-retabled {t = t} j e has z = record { table = λ k h. page_kept t j k e has (z.table k h); rows = length-set t j.region (slice_set (pages_of t j.region) j.page e) ∙ z.rows; page_size = z.page_size; frames = z.frames; capacity = z.capacity; regions = z.regions; faults = z.faults; on = z.on; off = z.off; queued = z.queued }
+retabled {t = t} j e has z = record { table = λ k h. page_kept t j k e has (z.table k h); rows = length-set t j.region (slice_set (region_entries t j.region) j.page e) ∙ z.rows; page_size = z.page_size; frames = z.frames; capacity = z.capacity; regions = z.regions; faults = z.faults; on = z.on; off = z.off; queued = z.queued }
 
 -- after a change of the queue
 pub requeued : {S : Type 0} {c : StripeConfig} {lanes : List LaneSeen} {t : Table} {b : BufferSeen} {q : QueueSeen} {gs : List (Region S)} {marks : Marks} (new : QueueSeen)

@@ -9,7 +9,7 @@ use Rattle.page_base.specs.Pages.{same}
 use Rattle.page_base.specs.declared.keys.Key.{Key}
 use Rattle.soft_mmu.specs.declared.entry.PageEntry.{PageEntry}
 use Rattle.soft_mmu.specs.declared.entry.PageEntry.TheVariants.{Absent, Present}
-use Rattle.soft_mmu.specs.Entries.{entry_of, with_entry, HasPage}
+use Rattle.soft_mmu.specs.Entries.{table_entry, with_entry, HasPage}
 use Rattle.page_buffer.specs.Frames.{FrameSeen, Free, Reserved, resident_key, is_reserved, is_resident, bytes_of, with_bytes, refilled}
 use Rattle.page_buffer.specs.Frames as frame
 use Rattle.page_buffer.specs.Buffers.{BufferSeen, frame_of, with_frame, with_page, reserved_frames}
@@ -28,7 +28,7 @@ use Rattle.stripe_core.proofs.Looks.{page_key, holds_page}
 -- the same pages in the same frames
 pub record SameFrames (t new : Table) (b after : BufferSeen) : Type 0 where
   pub residents : after.residents ≡ b.residents
-  pub entries : (k : Key) → frame_in (entry_of new k) ≡ frame_in (entry_of t k)
+  pub entries : (k : Key) → frame_in (table_entry new k) ≡ frame_in (table_entry t k)
   pub held : (f : ℕ) → resident_key (frame_of after f) ≡ resident_key (frame_of b f)
   pub kept : (f : ℕ) → reserved_key (frame_of after f) ≡ reserved_key (frame_of b f)
   pub counted : reserved_frames after ≡ reserved_frames b
@@ -44,13 +44,13 @@ still_tied t new b after outs same_frames tied = record {
 }
 
 -- a page's bits
-pub bits_same : (t : Table) (b : BufferSeen) (k : Key) (p d q e : Bool) (f : ℕ) → HasPage t k → entry_of t k ≡ Present p d f → SameFrames t (with_entry t k (Present q e f)) b b
+pub bits_same : (t : Table) (b : BufferSeen) (k : Key) (p d q e : Bool) (f : ℕ) → HasPage t k → table_entry t k ≡ Present p d f → SameFrames t (with_entry t k (Present q e f)) b b
 bits_same t b k p d q e f has is = record {
   residents = refl;
   entries = λ j. elim (cases_Bool (same k j)) [
     | inl s ↦
         let kj : k ≡ j = same-true k j s in
-        let P : Key → Type 0 = λ i. frame_in (entry_of (with_entry t k (Present q e f)) i) ≡ frame_in (entry_of t i) in
+        let P : Key → Type 0 = λ i. frame_in (table_entry (with_entry t k (Present q e f)) i) ≡ frame_in (table_entry t i) in
         subst P kj (ap frame_in (entry_set t k (Present q e f) has) ∙ sym (ap frame_in is))
     | inr n ↦ ap frame_in (entry_kept t k j (Present q e f) has (λ kj. let s : same k j ≡ true = rw (sym kj) (same_self k) in cc))
   ];
@@ -90,7 +90,7 @@ bytes_same t b k f bytes is =
 -- ---- what a change makes of the pages that are seen
 
 -- two pages lie in two frames
-pub frames_apart : (t : Table) (b : BufferSeen) (outs : List (Option ReadOut)) (j k : Key) (f g : ℕ) → Tied t b outs → frame_in (entry_of t j) ≡ Some g → resident_key (frame_of b f) ≡ Some k → (j ≡ k → ⊥) → g ≡ f → ⊥
+pub frames_apart : (t : Table) (b : BufferSeen) (outs : List (Option ReadOut)) (j k : Key) (f g : ℕ) → Tied t b outs → frame_in (table_entry t j) ≡ Some g → resident_key (frame_of b f) ≡ Some k → (j ≡ k → ⊥) → g ≡ f → ⊥
 frames_apart t b outs j k f g tied e is n gf =
     let held : resident_key (frame_of b g) ≡ Some j = tied.entries j g e in
     let same_frame : resident_key (frame_of b g) ≡ Some k = rw gf is in
@@ -108,7 +108,7 @@ pages_changed k change old new (j ∷ js) e = let here = e j in let rest = pages
 pub one_changes : (t new : Table) (b after : BufferSeen) (k : Key) (change : Resident → Resident) (j : Key)
     → page_seen new after k ≡ change (page_seen t b k) → ((k ≡ j → ⊥) → page_seen new after j ≡ page_seen t b j)
     → page_seen new after j ≡ cond (same (page_seen t b j).key k) (change (page_seen t b j)) (page_seen t b j)
-one_changes t new b after k change j here other = let key : (page_seen t b j).key ≡ j = page_key b j (entry_of t j) in rw key (go (same j k) refl)
+one_changes t new b after k change j here other = let key : (page_seen t b j).key ≡ j = page_key b j (table_entry t j) in rw key (go (same j k) refl)
   where
     go : (x : Bool) → same j k ≡ x → page_seen new after j ≡ cond x (change (page_seen t b j)) (page_seen t b j)
     go true s = let P : Key → Type 0 = λ i. page_seen new after i ≡ change (page_seen t b i) in subst P (sym (same-true j k s)) here
@@ -118,7 +118,7 @@ refilled_is : (old new : List ℕ) → length new ≡ length old → refilled ol
 refilled_is old new e = grind (arith, common_steps)
 
 -- bytes are written over a page
-pub page_written : (t : Table) (b : BufferSeen) (outs : List (Option ReadOut)) (k : Key) (p d : Bool) (f place : ℕ) (bytes : List ℕ) → Tied t b outs → entry_of t k ≡ Present p d f
+pub page_written : (t : Table) (b : BufferSeen) (outs : List (Option ReadOut)) (k : Key) (p d : Bool) (f place : ℕ) (bytes : List ℕ) → Tied t b outs → table_entry t k ≡ Present p d f
     → pages_seen t (with_frame b f (frame.Resident k (spliced (bytes_of (frame_of b f)) place bytes))) ≡ on_page k (λ r. record r { bytes = spliced r.bytes place bytes }) (pages_seen t b)
 page_written t b outs k p d f place bytes tied is =
     let change : Resident → Resident = λ r. record r { bytes = spliced r.bytes place bytes } in
@@ -127,7 +127,7 @@ page_written t b outs k p d f place bytes tied is =
     let within = resident_within b f k held in
     let here : page_seen t (with_frame b f x) k ≡ change (page_seen t b k) = rw is (ap (λ y. record { key = k; protected = p; dirty = d; bytes = bytes_of y }) (frame_set b f x within)) in
     pages_changed k change (page_seen t b) (page_seen t (with_frame b f x)) b.residents
-    (λ j. one_changes t t b (with_frame b f x) k change j here (λ n. page_as b (with_frame b f x) j (entry_of t j) (λ g e. frame_kept b f g x (frames_apart t b outs j k f g tied e held (λ jk. n (sym jk))))))
+    (λ j. one_changes t t b (with_frame b f x) k change j here (λ n. page_as b (with_frame b f x) j (table_entry t j) (λ g e. frame_kept b f g x (frames_apart t b outs j k f g tied e held (λ jk. n (sym jk))))))
 
 spliced_length : (old : List ℕ) (place : ℕ) (bytes : List ℕ) → place + length bytes ≤ length old → length (spliced old place bytes) ≡ length old
 spliced_length old place bytes fits = simp (length-append, length-take, length-drop) (omega arith)

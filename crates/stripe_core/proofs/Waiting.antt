@@ -14,7 +14,7 @@ use Rattle.page_model.specs.Setups.{quota}
 use Rattle.page_buffer.specs.Frames.{FrameSeen, Free, Reserved, resident_key, is_for}
 use Rattle.page_buffer.specs.Frames as frame
 use Rattle.page_buffer.specs.Buffers.{BufferSeen, frame_of, reserved_frames, has_frame_for}
-use Rattle.soft_mmu.specs.Entries.{entry_of}
+use Rattle.soft_mmu.specs.Entries.{table_entry}
 use Rattle.soft_mmu.specs.declared.entry.PageEntry.TheVariants.{Absent}
 use Rattle.std.proofs.lemmas.Bool.{or_from}
 use Rattle.std.proofs.lemmas.List.{length-map}
@@ -73,10 +73,10 @@ not_for Free k held kept = refl
 not_for (Reserved j) k held kept = not_same j k (λ e. kept (ap (λ i. Some i) e))
 not_for (frame.Resident j bytes) k held kept = not_same j k (λ e. held (ap (λ i. Some i) e))
 
-pub no_frame : (t : Table) (b : BufferSeen) (outs : List (Option ReadOut)) (k : Key) → Tied t b outs → entry_of t k ≡ Absent → read_at outs k.region ≡ None → has_frame_for b k ≡ false
+pub no_frame : (t : Table) (b : BufferSeen) (outs : List (Option ReadOut)) (k : Key) → Tied t b outs → table_entry t k ≡ Absent → read_at outs k.region ≡ None → has_frame_for b k ≡ false
 no_frame t b outs k tied absent home =
     any_none (is_for k) b.frames Free (λ f. not_for (frame_of b f) k
-    (λ held. let there = tied.frames f k held in let gone : frame_in (entry_of t k) ≡ None = ap frame_in absent in cc)
+    (λ held. let there = tied.frames f k held in let gone : frame_in (table_entry t k) ≡ None = ap frame_in absent in cc)
     (λ kept. let there = tied.kept f k kept in cc))
 
 pub none_of : {A : Type 0} (o : Option A) → is_some o ≡ false → o ≡ None

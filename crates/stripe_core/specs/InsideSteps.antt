@@ -21,8 +21,8 @@ abbrev pub lane_placed : Core → ℕ → LanePlace → Core
 lane_placed c r place = record c { regions = on_region r (placed place) c.regions }
 
 -- one entry more
-abbrev pub one_more : Core → Core
-one_more c = record c { events = c.events + 1 }
+abbrev pub with_event : Core → Core
+with_event c = record c { events = c.events + 1 }
 
 -- one entry more, a write that ended well
 abbrev pub write_counted : Core → Core

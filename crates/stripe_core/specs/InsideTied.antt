@@ -8,7 +8,7 @@ use Rattle.page_base.specs.Lanes.{LaneSeen}
 use Rattle.page_base.specs.Pages.{on_mark, off_mark}
 use Rattle.soft_mmu.specs.declared.entry.PageEntry.{PageEntry}
 use Rattle.soft_mmu.specs.declared.entry.PageEntry.TheVariants.{Absent, Present}
-use Rattle.soft_mmu.specs.Entries.{entry_of, HasPage}
+use Rattle.soft_mmu.specs.Entries.{table_entry, HasPage}
 use Rattle.page_buffer.specs.Frames.{FrameSeen, Free, Reserved, Resident, resident_key}
 use Rattle.page_buffer.specs.Buffers.{BufferSeen, frame_of, reserved_frames}
 use Rattle.fault_queue.specs.Queues.{QueueSeen}
@@ -38,9 +38,9 @@ read_at reads r = slice_index_or reads r None
 -- Table, frames and reads name one another: a present page's entry names the frame that holds it, and no other frame does; a
 -- read that is out names the frame that is kept for its page, and no other frame is kept.
 pub record Tied (t : Table) (b : BufferSeen) (outs : List (Option ReadOut)) : Type 0 where
-  pub residents : (k : Key) → is_in k b.residents ≡ is_some (frame_in (entry_of t k))
-  pub entries : (k : Key) (f : ℕ) → frame_in (entry_of t k) ≡ Some f → resident_key (frame_of b f) ≡ Some k
-  pub frames : (f : ℕ) (k : Key) → resident_key (frame_of b f) ≡ Some k → frame_in (entry_of t k) ≡ Some f
+  pub residents : (k : Key) → is_in k b.residents ≡ is_some (frame_in (table_entry t k))
+  pub entries : (k : Key) (f : ℕ) → frame_in (table_entry t k) ≡ Some f → resident_key (frame_of b f) ≡ Some k
+  pub frames : (f : ℕ) (k : Key) → resident_key (frame_of b f) ≡ Some k → frame_in (table_entry t k) ≡ Some f
   pub kept : (f : ℕ) (k : Key) → reserved_key (frame_of b f) ≡ Some k → read_at outs k.region ≡ Some (record { key = k; frame = f })
   pub reads : (r : ℕ) (o : ReadOut) → read_at outs r ≡ Some o → (o.key.region ≡ r) × (reserved_key (frame_of b o.frame) ≡ Some o.key)
   pub counted : reserved_frames b ≡ count_by is_some outs

@@ -5,7 +5,7 @@ use Rattle.page_base.specs.declared.keys.Raise.{Raise}
 use Rattle.page_base.specs.Lanes.{LaneSeen}
 use Rattle.soft_mmu.specs.declared.entry.PageEntry.{PageEntry}
 use Rattle.soft_mmu.specs.declared.entry.PageEntry.TheVariants.{Absent, Present}
-use Rattle.soft_mmu.specs.Entries.{entry_of}
+use Rattle.soft_mmu.specs.Entries.{table_entry}
 use Rattle.page_buffer.specs.Frames.{bytes_of}
 use Rattle.page_buffer.specs.Buffers.{BufferSeen, frame_of}
 use Rattle.page_model.specs.declared.seen.Counts.{Counts}
@@ -24,7 +24,7 @@ page_in b k Absent = record { key = k; protected = false; dirty = false; bytes =
 page_in b k (Present protected dirty frame) = record { key = k; protected = protected; dirty = dirty; bytes = bytes_of (frame_of b frame) }
 
 abbrev pub page_seen : Table → BufferSeen → Key → Resident
-page_seen t b k = page_in b k (entry_of t k)
+page_seen t b k = page_in b k (table_entry t k)
 
 -- the resident pages, in order of filling
 abbrev pub pages_seen : Table → BufferSeen → List Resident

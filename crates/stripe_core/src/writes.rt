@@ -16,7 +16,7 @@ ghost use Rattle.page_model.specs.Stands.{StandsFor};
 ghost use Rattle.page_model.specs.Steps as step;
 ghost use Rattle.page_model.specs.Trips.{WithPage, OtherPages};
 ghost use Rattle.stripe_core.specs.Copies.{IsCopyOf};
-ghost use Rattle.stripe_core.specs.InsideSteps.{page_protected, page_cleaned, lane_placed, one_more, write_counted, fault_counted};
+ghost use Rattle.stripe_core.specs.InsideSteps.{page_protected, page_cleaned, lane_placed, with_event, write_counted, fault_counted};
 ghost use Rattle.stripe_core.specs.Standing.{StandsAfter, OpensWrite, TakesBytes, HasTaken, HasOpenWrite, EndsWrite, EndsWritten};
 
 use crate::region::{Lane, swap_lane};
@@ -72,7 +72,7 @@ impl<S: Store> Stripe<S> {
     fn send_lane(&mut self, key: Key) -> Trip<S>
         requires few { self.old.events < 2 ^ 62 }
         requires home { core.is_home self.old key.region ≡ true }
-        ensures step { self.new ≡ one_more (lane_placed self.old key.region (Writing key self.old.events)) }
+        ensures step { self.new ≡ with_event (lane_placed self.old key.region (Writing key self.old.events)) }
         ensures key { result.start.key ≡ key }
         ensures at { result.start.at ≡ self.old.events }
         ensures here { IsHere self.old key.region result.start.taken }

@@ -12,10 +12,10 @@ use Rattle.workload_text.specs.declared.workload.Workload.{Workload}
 use Rattle.workload_text.specs.declared.refusal.TextKind.TheVariants as kind
 use Rattle.workload_text.specs.declared.refusal.TextFault.{TextFault}
 use Rattle.workload_text.specs.declared.refusal.TextFault.TheVariants as text
-use Rattle.region_table.specs.Regions.{RegionSeen, TableSeen}
+use Rattle.region_table.specs.Regions.{NamedRegion, TableSeen}
 use Rattle.script_run.specs.FitsLaws.{RegionsAreMaps}
 use Rattle.script_run.specs.Tables.{regions_seen, table_of}
-use Rattle.script_run.specs.RegionRules.{region_seen, region_refusal, IfRegionRefused}
+use Rattle.script_run.specs.RegionRules.{named_region, region_refusal, IfRegionRefused}
 use Rattle.umapsh.specs.Inputs.{refusal_of, refused_behind, refused_text}
 use Rattle.umapsh.specs.InsideTop.{RunStop, text_status, region_status}
 use Rattle.script_run.specs.declared.regions.RegionRefusal.{RegionRefusal}
@@ -46,19 +46,19 @@ unfolding refusal_of read_text
 long_refused bytes long = rw (lt-leb (length bytes) 16777216 long) refl
 
 -- what the regions of a workload are refused for, by the call that was made
-pub same_call : (z : ℕ) (ms slice : List MapLine) (ns lines : List ℕ) → z ≡ 4096 → slice ≡ ms → lines ≡ ns → region_refusal 4096 [] (map region_seen ms) ns ≡ region_refusal z [] (map region_seen slice) lines
+pub same_call : (z : ℕ) (ms slice : List MapLine) (ns lines : List ℕ) → z ≡ 4096 → slice ≡ ms → lines ≡ ns → region_refusal 4096 [] (map named_region ms) ns ≡ region_refusal z [] (map named_region slice) lines
 same_call z ms slice ns lines e f g =
-    sym (ap (λ (k : ℕ). region_refusal k [] (map region_seen slice) lines) e
-    ∙ ap (λ (xs : List MapLine). region_refusal 4096 [] (map region_seen xs) lines) f
-    ∙ ap (λ (xs : List ℕ). region_refusal 4096 [] (map region_seen ms) xs) g)
+    sym (ap (λ (k : ℕ). region_refusal k [] (map named_region slice) lines) e
+    ∙ ap (λ (xs : List MapLine). region_refusal 4096 [] (map named_region xs) lines) f
+    ∙ ap (λ (xs : List ℕ). region_refusal 4096 [] (map named_region ms) xs) g)
 
 -- the table of all `map` lines is that of the workload's lines
-pub table_is : RegionsAreMaps → (z page_size : ℕ) (slice : List MapLine) (w : Workload) (t : TableSeen) → t ≡ record { page_size = z; regions = map region_seen slice } → z ≡ page_size → slice ≡ w.maps.items → t ≡ table_of page_size (lines_of w)
+pub table_is : RegionsAreMaps → (z page_size : ℕ) (slice : List MapLine) (w : Workload) (t : TableSeen) → t ≡ record { page_size = z; regions = map named_region slice } → z ≡ page_size → slice ≡ w.maps.items → t ≡ table_of page_size (lines_of w)
 table_is maps z page_size slice w t made sized same =
     made
-    ∙ ap (λ (n : ℕ). let y : TableSeen = record { page_size = n; regions = map region_seen slice } in y) sized
-    ∙ ap (λ (ms : List MapLine). let y : TableSeen = record { page_size = page_size; regions = map region_seen ms } in y) same
-    ∙ ap (λ (rs : List RegionSeen). let y : TableSeen = record { page_size = page_size; regions = rs } in y) (sym (maps.seen w))
+    ∙ ap (λ (n : ℕ). let y : TableSeen = record { page_size = n; regions = map named_region slice } in y) sized
+    ∙ ap (λ (ms : List MapLine). let y : TableSeen = record { page_size = page_size; regions = map named_region ms } in y) same
+    ∙ ap (λ (rs : List NamedRegion). let y : TableSeen = record { page_size = page_size; regions = rs } in y) (sym (maps.seen w))
 
 -- ---- the text is accepted
 
@@ -69,33 +69,33 @@ module _ (laws : Laws) (bytes : List ℕ) (w : Workload) (numbers : List ℕ) (s
   numbers_are : map_numbers 1 spelt.texts ≡ numbers
   numbers_are = ap (map_numbers 1) (sym same_texts) ∙ sym numbered.numbers_are
 
-  regions_are : regions_seen (lines_in spelt.texts) ≡ map region_seen w.maps.items
+  regions_are : regions_seen (lines_in spelt.texts) ≡ map named_region w.maps.items
   regions_are = ap regions_seen spelt.lines_are ∙ laws.maps.seen w
 
   -- each region has its line
-  pub as_many : length numbers ≡ length (map region_seen w.maps.items)
+  pub as_many : length numbers ≡ length (map named_region w.maps.items)
   as_many = ap length (sym numbers_are) ∙ laws.maps.numbered 1 spelt.texts ∙ ap length regions_are
 
-  pub refusal_is : refusal_of bytes ≡ refused_behind (region_refusal 4096 [] (map region_seen w.maps.items) numbers) (is_built (lines_of w))
+  pub refusal_is : refusal_of bytes ≡ refused_behind (region_refusal 4096 [] (map named_region w.maps.items) numbers) (is_built (lines_of w))
   unfolding refusal_of
   refusal_is =
       ap refused_text (laws.read bytes spelt.texts spelt.text)
-      ∙ ap (λ (rs : List RegionSeen). refused_behind (region_refusal 4096 [] rs (map_numbers 1 spelt.texts)) (is_built (lines_in spelt.texts))) regions_are
-      ∙ ap (λ (ns : List ℕ). refused_behind (region_refusal 4096 [] (map region_seen w.maps.items) ns) (is_built (lines_in spelt.texts))) numbers_are
-      ∙ ap (λ (ls : List Line). refused_behind (region_refusal 4096 [] (map region_seen w.maps.items) numbers) (is_built ls)) spelt.lines_are
+      ∙ ap (λ (rs : List NamedRegion). refused_behind (region_refusal 4096 [] rs (map_numbers 1 spelt.texts)) (is_built (lines_in spelt.texts))) regions_are
+      ∙ ap (λ (ns : List ℕ). refused_behind (region_refusal 4096 [] (map named_region w.maps.items) ns) (is_built (lines_in spelt.texts))) numbers_are
+      ∙ ap (λ (ls : List Line). refused_behind (region_refusal 4096 [] (map named_region w.maps.items) numbers) (is_built ls)) spelt.lines_are
 
   -- a region breaks a rule
-  region_refused : (r : RegionRefusal) → region_refusal 4096 [] (map region_seen w.maps.items) numbers ≡ Some r → refusal_of bytes ≡ Some (record { line = r.line; kind = why.Region r.kind })
+  region_refused : (r : RegionRefusal) → region_refusal 4096 [] (map named_region w.maps.items) numbers ≡ Some r → refusal_of bytes ≡ Some (record { line = r.line; kind = why.Region r.kind })
   region_refused r h = refusal_is ∙ ap (λ (o : Option RegionRefusal). refused_behind o (is_built (lines_of w))) h
 
-  pub region_stops : (fault : TableFault) (o : Option RegionRefusal) → region_refusal 4096 [] (map region_seen w.maps.items) numbers ≡ o → IfRegionRefused fault (λ r. o ≡ Some r) → RunStop (region_status fault) bytes
+  pub region_stops : (fault : TableFault) (o : Option RegionRefusal) → region_refusal 4096 [] (map named_region w.maps.items) numbers ≡ o → IfRegionRefused fault (λ r. o ≡ Some r) → RunStop (region_status fault) bytes
   region_stops (table.Refused r) o same h = region_refused r (same ∙ h)
   region_stops table.OutOfMemory o same h = tt
 
   -- none does, and the workload isn't built
-  pub unbuilt_refused : region_refusal 4096 [] (map region_seen w.maps.items) numbers ≡ None → is_built (lines_of w) ≡ false → refusal_of bytes ≡ Some (record { line = 0; kind = why.Unbuilt })
+  pub unbuilt_refused : region_refusal 4096 [] (map named_region w.maps.items) numbers ≡ None → is_built (lines_of w) ≡ false → refusal_of bytes ≡ Some (record { line = 0; kind = why.Unbuilt })
   unbuilt_refused h b = refusal_is ∙ ap (λ (o : Option RegionRefusal). refused_behind o (is_built (lines_of w))) h ∙ ap (λ (x : _). refused_behind None x) b
 
   -- or it is
-  pub unrefused : region_refusal 4096 [] (map region_seen w.maps.items) numbers ≡ None → is_built (lines_of w) ≡ true → refusal_of bytes ≡ None
+  pub unrefused : region_refusal 4096 [] (map named_region w.maps.items) numbers ≡ None → is_built (lines_of w) ≡ true → refusal_of bytes ≡ None
   unrefused h b = refusal_is ∙ ap (λ (o : Option RegionRefusal). refused_behind o (is_built (lines_of w))) h ∙ ap (λ (x : _). refused_behind None x) b

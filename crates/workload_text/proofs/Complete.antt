@@ -7,7 +7,7 @@ use Rattle.std.proofs.lemmas.Bool.{and_parts, and_from, leb-true, le-leb, lt-ltb
 use Rattle.std.proofs.lemmas.Fmt.{decimal_nonempty}
 use Rattle.page_base.specs.Backings.{in_memory, in_file, in_files}
 use Rattle.workload_text.specs.Line.{Line, TextLine, says, silent, map_line, script_line, load_line, store_line, prefetch_line, flush_line, unmap_line}
-use Rattle.workload_text.specs.Grammar.{Said, nothing, after_text, is_name, is_name_byte, is_silent, name_at, size_at, mode_text, fields, line_text, shown, spelled, MayMap, MayBegin, MayCommand, MayReach, MayLoad, MayStore, MayPrefetch, MayUnmap, Allowed, AllowedText, AllAllowed, IsText}
+use Rattle.workload_text.specs.Grammar.{Said, nothing, after_text, is_name, is_name_byte, is_silent, name_at, size_at, mode_text, fields, line_text, shown, spelled, MayMap, MayBegin, MayCommand, MayReach, MayLoad, MayStoreBytes, MayPrefetch, MayUnmapRegion, Allowed, AllowedText, AllAllowed, IsText}
 use Rattle.workload_text.specs.Reading.{mode_of, is_empty, read_memory, read_file, read_sparse, read_map, read_script, read_load, read_store, read_prefetch, read_flush, read_unmap, read_word, read_fields, read_line, read_text_line, is_space, is_line_feed, is_hex_digit, ◌>>=◌}
 use Rattle.workload_text.specs.Refusals.{RefusedAt, read_texts, read_text, before_all}
 use Rattle.workload_text.specs.declared.refusal.TextKind.{TextKind}
@@ -89,7 +89,7 @@ load_complete s r off len name h =
     let limits = and_from _ _ (lt-ltb s.commands 262144 h.reach.command.few) (le-leb (s.loaded + len) 33554432 h.room) in
     rw (begun, name, place, count, h.reach.first, inside, limits) refl
 
-store_complete : (s : Said) (r off : ℕ) (bytes : List ℕ) → is_name (name_at s.regions r) ≡ true → MayStore s r off bytes → read_store s (name_at s.regions r) (decimal off) (encode_lower bytes) ≡ Ok (store_line r off bytes)
+store_complete : (s : Said) (r off : ℕ) (bytes : List ℕ) → is_name (name_at s.regions r) ≡ true → MayStoreBytes s r off bytes → read_store s (name_at s.regions r) (decimal off) (encode_lower bytes) ≡ Ok (store_line r off bytes)
 unfolding read_store
 store_complete s r off bytes name h =
     let begun = is_empty-false s.scripts (some_length s.scripts h.reach.command.begun) in
@@ -116,7 +116,7 @@ flush_complete s h =
     let few = lt-ltb s.commands 262144 h.few in
     rw (begun, few) refl
 
-unmap_complete : (s : Said) (r : ℕ) → is_name (name_at s.regions r) ≡ true → MayUnmap s r → read_unmap s (name_at s.regions r) ≡ Ok (unmap_line r)
+unmap_complete : (s : Said) (r : ℕ) → is_name (name_at s.regions r) ≡ true → MayUnmapRegion s r → read_unmap s (name_at s.regions r) ≡ Ok (unmap_line r)
 unfolding read_unmap
 unmap_complete s r name h =
     let begun = is_empty-false s.scripts (some_length s.scripts h.command.begun) in

@@ -7,7 +7,7 @@ use Rattle.workload_text.specs.Reading.{read_text_line, is_empty, is_line_feed}
 use Rattle.workload_text.specs.Refusals.{RefusedAt, refusal, read_texts}
 use Rattle.workload_text.specs.InsideState.{TakesText, said_by, with_front}
 use Rattle.workload_text.specs.Answers.{IfRefused}
-use Rattle.workload_text.specs.InsideAnswers.{fault_at}
+use Rattle.workload_text.specs.InsideAnswers.{text_fault_at}
 use Rattle.workload_text.specs.declared.refusal.LineFault.{LineFault}
 use Rattle.workload_text.specs.declared.refusal.LineFault.TheVariants as line
 use Rattle.workload_text.specs.declared.refusal.TextKind.{TextKind}
@@ -44,6 +44,6 @@ unfolding refusal
 text_long bytes long = rw (lt-leb (length bytes) 16777216 long) refl
 
 -- whatever ends the text at a line
-pub line_stops : (bytes text behind rest : List ℕ) (fault : LineFault) (old new : Reading) (n : ℕ) → length bytes ≤ 16777216 → TakesText {U = Unit {0}} n old new (read_text_line (said_by old) text) (Err fault) → slice_split is_line_feed rest ≡ text ∷ slice_split is_line_feed behind → ReadsOn old n rest (whole bytes) → IfRefused {W = Unit {0}} (Err (fault_at n fault)) (λ m k. refusal bytes ≡ Some (record { line = m; kind = k }))
+pub line_stops : (bytes text behind rest : List ℕ) (fault : LineFault) (old new : Reading) (n : ℕ) → length bytes ≤ 16777216 → TakesText {U = Unit {0}} n old new (read_text_line (said_by old) text) (Err fault) → slice_split is_line_feed rest ≡ text ∷ slice_split is_line_feed behind → ReadsOn old n rest (whole bytes) → IfRefused {W = Unit {0}} (Err (text_fault_at n fault)) (λ m k. refusal bytes ≡ Some (record { line = m; kind = k }))
 line_stops bytes text behind rest (line.Refused k) old new n short t e i = line_refused bytes text behind rest k old n short t e i
 line_stops bytes text behind rest line.OutOfMemory old new n short t e i = tt

@@ -5,7 +5,7 @@ use Rattle.std.specs.Str.{bytes_eq}
 use Rattle.std.proofs.lemmas.Bool.{or_cases, or_parts, both_ways, cases_Bool}
 use Rattle.std.proofs.lemmas.Slice.Eq.{bytes_eq-Decides}
 use Rattle.workload_text.specs.Line.{TextLine, says, silent, map_line, script_line, load_line, store_line, prefetch_line, flush_line, unmap_line}
-use Rattle.workload_text.specs.Grammar.{Said, Region, after_text, is_name, region_from, region_of, name_at, MayName, AllowedText}
+use Rattle.workload_text.specs.Grammar.{Said, Region, after_text, is_name, region_from, region_by_name, name_at, MayName, AllowedText}
 
 -- ---- the first region of a name
 
@@ -21,7 +21,7 @@ region_from-Some n (g ∷ gs) name r h =
       | inr there ↦ let k = region_from-Some (n + 1) gs name r there.1 in (suc k.0, omega (arith, k.1), omega (arith, k.2), k.3)
     ]
 
-pub region_of-below : (s : Said) (name : List ℕ) (r : ℕ) → region_of s name ≡ Some r → r < length s.regions
+pub region_of-below : (s : Said) (name : List ℕ) (r : ℕ) → region_by_name s name ≡ Some r → r < length s.regions
 region_of-below s name r h = let k = region_from-Some 0 s.regions name r h in omega (arith, k.1, k.2)
 
 -- ---- names that are spelt as names

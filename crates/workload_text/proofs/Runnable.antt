@@ -3,7 +3,7 @@ use Rattle.std.proofs.Common.{◌≡◌, ℕ, zero, suc, true, ◌&&◌, nat_le,
 use Rattle.std.proofs.lemmas.Bool.{leb-true, and_parts}
 use Rattle.std.specs.List.{list_all}
 use Rattle.workload_text.specs.Line.{Line, TextLine, says, silent, map_line, script_line, load_line, store_line, prefetch_line, flush_line, unmap_line}
-use Rattle.workload_text.specs.Grammar.{Said, Region, nothing, after_text, name_at, size_at, writable_at, is_name, is_name_byte, MayReach, MayStore, MayName, AllAllowed, lines_in, Spells}
+use Rattle.workload_text.specs.Grammar.{Said, Region, nothing, after_text, name_at, size_at, writable_at, is_name, is_name_byte, MayReach, MayStoreBytes, MayName, AllAllowed, lines_in, Spells}
 use Rattle.workload_text.proofs.Names.{region_of-below}
 use Rattle.workload_text.specs.Accepted.{regions_of, script_count, command_count, loaded_bytes, LiesInside, HintsInside, StoresInside, AllFit, IsRunnable}
 
@@ -35,7 +35,7 @@ reach_fits s more gs r off len e h short =
     let k = reach_there s more gs r off len e h in
     record { known = k.known; inside = k.inside; short = short }
 
-store_fits : (s : Said) (more gs : List Region) (r off : ℕ) (bytes : List ℕ) → gs ≡ s.regions ++ more → MayStore s r off bytes → StoresInside gs r off bytes
+store_fits : (s : Said) (more gs : List Region) (r off : ℕ) (bytes : List ℕ) → gs ≡ s.regions ++ more → MayStoreBytes s r off bytes → StoresInside gs r off bytes
 store_fits s more gs r off bytes e h =
     let there = region_of-below s (name_at s.regions r) r h.reach.first in
     record {

@@ -9,7 +9,7 @@ use Rattle.std.proofs.lemmas.List.Splits.{join_with_byte-slice_split, slice_spli
 use Rattle.std.proofs.lemmas.List.Elements.{All-cons, All-nil}
 use Rattle.std.proofs.lemmas.List.{nil_from_length}
 use Rattle.workload_text.specs.Line.{Line, TextLine}
-use Rattle.workload_text.specs.Grammar.{Said, nothing, after_text, is_name, is_path, is_silent, region_of, name_at, size_at, writable_at, mode_text, fields, line_text, shown, spelled, Allowed, AllowedText, AllAllowed, IsText}
+use Rattle.workload_text.specs.Grammar.{Said, nothing, after_text, is_name, is_path, is_silent, region_by_name, name_at, size_at, writable_at, mode_text, fields, line_text, shown, spelled, Allowed, AllowedText, AllAllowed, IsText}
 use Rattle.workload_text.specs.Reading.{number_of, mode_of, bytes_of, or_refused, is_empty, one_of, two_of, three_of, four_of, read_memory, read_file, read_sparse, read_map, read_script, read_load, read_store, read_prefetch, read_flush, read_unmap, read_word, read_fields, read_line, read_text_line, is_space, is_line_feed, ◌>>=◌}
 use Rattle.workload_text.specs.Refusals.{RefusedAt, read_texts, read_text, line_then, before_all}
 use Rattle.workload_text.specs.declared.refusal.TextKind.{TextKind}
@@ -83,7 +83,7 @@ four_are fs f h = absurd (cc h)
 abbrev IsSpelt : Said → List (List ℕ) → Line → Type 0
 IsSpelt s parts l = (parts ≡ fields s l) × Allowed s l
 
-named : (s : Said) (name : List ℕ) (r : ℕ) → region_of s name ≡ Some r → name_at s.regions r ≡ name
+named : (s : Said) (name : List ℕ) (r : ℕ) → region_by_name s name ≡ Some r → name_at s.regions r ≡ name
 named s name r h = let k = region_from-Some 0 s.regions name r h in ap (name_at s.regions) (omega (arith, k.1)) ∙ k.3
 
 mode_cases : (b c : Bool) (w : Bool) → cond b (Some true) (cond c (Some false) None) ≡ Some w → ((b ≡ true) × (true ≡ w)) ⊎ ((c ≡ true) × (false ≡ w))
@@ -173,7 +173,7 @@ load_sound s name off len l h =
     let b = passed (not (is_name name)) _ _ l a.1 in
     let o = found _ (number_of 0 1099511627776 off) _ l b.1 in
     let n = found _ (number_of 0 65536 len) _ l o.2 in
-    let r = found _ (region_of s name) _ l n.2 in
+    let r = found _ (region_by_name s name) _ l n.2 in
     let d = passed (not (nat_le (o.0 + n.0) (size_at s.regions r.0))) _ _ l r.2 in
     let e = accepted (nat_lt s.commands 262144 && nat_le (s.loaded + n.0) 33554432) _ _ l d.1 in
     let place = number_of-Some 0 1099511627776 o.0 off o.1 in
@@ -188,7 +188,7 @@ load_sound s name off len l h =
       record {
         reach = record {
           command = record { begun = not_empty s.scripts a.0; few = ltb-true _ _ limits.0 };
-          first = ap (region_of s) name_is ∙ r.1;
+          first = ap (region_by_name s) name_is ∙ r.1;
           place = place.2;
           inside = leb-true _ _ (not-false _ d.0);
         };
@@ -204,7 +204,7 @@ store_sound s name off hex l h =
     let b = passed (not (is_name name)) _ _ l a.1 in
     let o = found _ (number_of 0 1099511627776 off) _ l b.1 in
     let n = found _ (bytes_of hex) _ l o.2 in
-    let r = found _ (region_of s name) _ l n.2 in
+    let r = found _ (region_by_name s name) _ l n.2 in
     let d = passed (not (nat_le (o.0 + length n.0) (size_at s.regions r.0))) _ _ l r.2 in
     let w = passed (not (writable_at s.regions r.0)) _ _ l d.1 in
     let e = accepted (nat_lt s.commands 262144) _ _ l w.1 in
@@ -219,7 +219,7 @@ store_sound s name off hex l h =
       record {
         reach = record {
           command = record { begun = not_empty s.scripts a.0; few = ltb-true _ _ e.0 };
-          first = ap (region_of s) name_is ∙ r.1;
+          first = ap (region_by_name s) name_is ∙ r.1;
           place = place.2;
           inside = leb-true _ _ (not-false _ d.0);
         };
@@ -237,7 +237,7 @@ prefetch_sound s name off len l h =
     let b = passed (not (is_name name)) _ _ l a.1 in
     let o = found _ (number_of 0 1099511627776 off) _ l b.1 in
     let n = found _ (number_of 0 1099511627776 len) _ l o.2 in
-    let r = found _ (region_of s name) _ l n.2 in
+    let r = found _ (region_by_name s name) _ l n.2 in
     let d = passed (not (nat_le (o.0 + n.0) (size_at s.regions r.0))) _ _ l r.2 in
     let e = accepted (nat_lt s.commands 262144) _ _ l d.1 in
     let place = number_of-Some 0 1099511627776 o.0 off o.1 in
@@ -250,7 +250,7 @@ prefetch_sound s name off len l h =
       record {
         reach = record {
           command = record { begun = not_empty s.scripts a.0; few = ltb-true _ _ e.0 };
-          first = ap (region_of s) name_is ∙ r.1;
+          first = ap (region_by_name s) name_is ∙ r.1;
           place = place.2;
           inside = leb-true _ _ (not-false _ d.0);
         };
@@ -270,12 +270,12 @@ unfolding read_unmap
 unmap_sound s name l h =
     let a = passed (is_empty s.scripts) _ _ l h in
     let b = passed (not (is_name name)) _ _ l a.1 in
-    let r = found _ (region_of s name) _ l b.1 in
+    let r = found _ (region_by_name s name) _ l b.1 in
     let e = accepted (nat_lt s.commands 262144) _ _ l r.2 in
     let name_is = named s name r.0 r.1 in
     subst (IsSpelt s (codes "unmap" ∷ name ∷ [])) (ok_same _ l e.1) (
       ap (λ t. codes "unmap" ∷ t ∷ []) (sym name_is),
-      record { command = record { begun = not_empty s.scripts a.0; few = ltb-true _ _ e.0 }; first = ap (region_of s) name_is ∙ r.1 },
+      record { command = record { begun = not_empty s.scripts a.0; few = ltb-true _ _ e.0 }; first = ap (region_by_name s) name_is ∙ r.1 },
     )
 
 -- ---- one line

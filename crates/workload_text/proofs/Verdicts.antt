@@ -9,7 +9,7 @@ use Rattle.std.proofs.lemmas.Bool.{cases_Bool, cases_eq, and_parts, both_ways, e
 use Rattle.std.proofs.lemmas.Fmt.{decimal_is_IsNumeral}
 use Rattle.std.proofs.lemmas.Slice.Eq.{bytes_eq-Decides}
 use Rattle.workload_text.specs.Line.{Line}
-use Rattle.workload_text.specs.Grammar.{Said, is_name, is_path, region_of, size_at, writable_at}
+use Rattle.workload_text.specs.Grammar.{Said, is_name, is_path, region_by_name, size_at, writable_at}
 use Rattle.workload_text.specs.Reading.{number_of, bytes_of, mode_of, or_refused, is_empty, one_of, two_of, three_of, four_of, as_region, read_memory, read_file, read_sparse, read_map, read_script, read_load, read_store, read_prefetch, read_flush, read_unmap, read_word, read_fields, ◌>>=◌}
 use Rattle.workload_text.specs.Kinds.{Sort, a_name, a_path, a_number, hex_bytes, a_mode, a_store, IsNumber, IsHex, is_store_kind, IsSpelt, FirstMisspelt, forms, map_forms, sorts_by, field_at, begins_with, is_map, is_command, names_region, names_length, sorts_of, NamesRange, IsFormless, empty_field, unknown_word, short_map, other_number, late_map, early_command, IsMisspelt, regions, scripts, commands, loads, AppliesTo, place}
 use Rattle.workload_text.specs.declared.refusal.TextKind.{TextKind}
@@ -199,7 +199,7 @@ not_double s fs other = λ h. both_ways (begins_with (codes "script") fs) other 
 not_unknown : (s : Said) (fs : List (List ℕ)) → names_region fs ≡ false → ¬ AppliesTo kind.Unknown s fs
 not_unknown s fs other = λ h. both_ways (names_region fs) other h.0
 
-known_region : (s : Said) (fs : List (List ℕ)) (r : ℕ) → region_of s (field_at fs 1) ≡ Some r → ¬ AppliesTo kind.Unknown s fs
+known_region : (s : Said) (fs : List (List ℕ)) (r : ℕ) → region_by_name s (field_at fs 1) ≡ Some r → ¬ AppliesTo kind.Unknown s fs
 known_region s fs r is = λ h. let none = h.1 in absurd (cc (is, none))
 
 not_read_only : (s : Said) (fs : List (List ℕ)) → begins_with (codes "store") fs ≡ false → ¬ AppliesTo kind.ReadOnly s fs
@@ -209,7 +209,7 @@ not_range : (s : Said) (fs : List (List ℕ)) → names_length fs ≡ false → 
 not_range s fs none other = λ h. elim h.3.length_is [ inl p ↦ both_ways (names_length fs) none p.0 | inr p ↦ both_ways (begins_with (codes "store") fs) other p.0 ]
 
 -- a range that is read and lies inside
-inside : (s : Said) (fs : List (List ℕ)) (r off len : ℕ) → region_of s (field_at fs 1) ≡ Some r → IsNumber 0 1099511627776 (field_at fs 2) off
+inside : (s : Said) (fs : List (List ℕ)) (r off len : ℕ) → region_by_name s (field_at fs 1) ≡ Some r → IsNumber 0 1099511627776 (field_at fs 2) off
     → ((n : ℕ) → names_length fs ≡ true → IsNumber 0 1099511627776 (field_at fs 3) n → n ≡ len) → ((bytes : List ℕ) → begins_with (codes "store") fs ≡ true → IsHex (field_at fs 3) bytes → length bytes ≡ len)
     → off + len ≤ size_at s.regions r → ¬ AppliesTo kind.Range s fs
 inside s fs r off len is from number hex fits = λ h.
@@ -252,7 +252,7 @@ load_verdict s a b c full =
     let len_is = number_here 0 65536 n c len in
     let c10 = all_spelt s fs sorts refl c5 (not-false _ named, ((o, off_is), ((n, len_is), tt))) in
     let wide : IsNumber 0 1099511627776 c n = record { spelt = len_is.spelt; least_is = len_is.least_is; most_is = (let m = len_is.most_is in omega (arith, m)) } in
-    value s fs kind.Unknown (region_of s a) _ (λ e. ((refl, e), c10)) (λ r known.
+    value s fs kind.Unknown (region_by_name s a) _ (λ e. ((refl, e), c10)) (λ r known.
     let c12 = then_not 11 kind.Double s fs refl (then_not 10 kind.Unknown s fs refl c10 (known_region s fs r known)) (not_double s fs refl) in
     refuse s fs (not (nat_le (o + n) (size_at s.regions r))) kind.Range _ (λ e. (passes s fs r o n (record { region = known; from = off_is; length_is = inl (refl, wide) }) e, c12)) (λ fits.
     let same = λ (m : ℕ) (is : IsNumber 0 1099511627776 c m). same_number c m n is.spelt len_is.spelt (let x = is.most_is in omega (arith, x)) (let x = len_is.most_is in omega (arith, x)) in
@@ -288,7 +288,7 @@ store_verdict s a b c full =
     value s fs kind.Hex (bytes_of c) _ (λ e. misspelt s fs sorts refl kind.Hex c5 (omega arith) (λ h. h) (inr (not-false _ named, inr ((o, off_is), inl (no_hex c e, refl))))) (λ bytes hex.
     let hex_is = hex_here c bytes hex in
     let c10 = all_spelt s fs sorts refl c5 (not-false _ named, ((o, off_is), ((bytes, hex_is), tt))) in
-    value s fs kind.Unknown (region_of s a) _ (λ e. ((refl, e), c10)) (λ r known.
+    value s fs kind.Unknown (region_by_name s a) _ (λ e. ((refl, e), c10)) (λ r known.
     let c12 = then_not 11 kind.Double s fs refl (then_not 10 kind.Unknown s fs refl c10 (known_region s fs r known)) (not_double s fs refl) in
     refuse s fs (not (nat_le (o + length bytes) (size_at s.regions r))) kind.Range _ (λ e. (passes s fs r o (length bytes) (record { region = known; from = off_is; length_is = inr (refl, (bytes, hex_is, refl)) }) e, c12)) (λ fits.
     let c13 = then_not 12 kind.Range s fs refl c12 (inside s fs r o (length bytes) known off_is (λ m e h. absurd (cc e)) (λ its _ is. ap length (same_bytes c its bytes is hex_is)) (leb-true _ _ (not-false _ fits))) in
@@ -310,7 +310,7 @@ prefetch_verdict s a b c full =
     value s fs kind.Number (number_of 0 1099511627776 c) _ (λ e. misspelt s fs sorts refl kind.Number c5 (omega arith) (λ h. h) (inr (not-false _ named, inr ((o, off_is), inl (no_number 0 1099511627776 c (omega arith) e, refl))))) (λ n len.
     let len_is = number_here 0 1099511627776 n c len in
     let c10 = all_spelt s fs sorts refl c5 (not-false _ named, ((o, off_is), ((n, len_is), tt))) in
-    value s fs kind.Unknown (region_of s a) _ (λ e. ((refl, e), c10)) (λ r known.
+    value s fs kind.Unknown (region_by_name s a) _ (λ e. ((refl, e), c10)) (λ r known.
     let c12 = then_not 11 kind.Double s fs refl (then_not 10 kind.Unknown s fs refl c10 (known_region s fs r known)) (not_double s fs refl) in
     refuse s fs (not (nat_le (o + n) (size_at s.regions r))) kind.Range _ (λ e. (passes s fs r o n (record { region = known; from = off_is; length_is = inl (refl, len_is) }) e, c12)) (λ fits.
     let same = λ (m : ℕ) (is : IsNumber 0 1099511627776 c m). same_number c m n is.spelt len_is.spelt (let x = is.most_is in omega (arith, x)) (let x = len_is.most_is in omega (arith, x)) in
@@ -339,7 +339,7 @@ unmap_verdict s a full =
     let c5 = then_not 4 kind.Order s fs refl c4 (well_placed s fs (λ h. absurd (cc h)) (λ _. not_empty s.scripts begun)) in
     refuse s fs (not (is_name a)) kind.Name _ (λ e. misspelt s fs sorts refl kind.Name c5 (omega arith) (λ h. h) (inl (no_test (is_name a) e, refl))) (λ named.
     let c10 = all_spelt s fs sorts refl c5 (not-false _ named, tt) in
-    value s fs kind.Unknown (region_of s a) _ (λ e. ((refl, e), c10)) (λ r known.
+    value s fs kind.Unknown (region_by_name s a) _ (λ e. ((refl, e), c10)) (λ r known.
     let c12 = then_not 11 kind.Double s fs refl (then_not 10 kind.Unknown s fs refl c10 (known_region s fs r known)) (not_double s fs refl) in
     let c14 = then_not 13 kind.ReadOnly s fs refl (then_not 12 kind.Range s fs refl c12 (not_range s fs refl refl)) (not_read_only s fs refl) in
     accept s fs (nat_lt s.commands 262144) kind.Many _ (λ few. then_not 14 kind.Many s fs refl c14 (few_commands s fs refl refl refl few)) (λ full_. (commands refl (ltb-false _ _ full_), c14)))))

@@ -54,18 +54,18 @@ pub record IsSize (backing : Backing) (size : ℕ) : Type 0 where
   pub most : size ≤ most_size backing
 
 -- what one line is good for, among these regions
-abbrev pub Fits : List Region → Line → Type 0
-Fits regions (map_line name backing size writable) = IsSize backing size
-Fits regions (script_line name) = length name ≤ MOST_NAME_BYTES
-Fits regions (load_line r off len) = LiesInside regions r off len
-Fits regions (store_line r off bytes) = StoresInside regions r off bytes
-Fits regions (prefetch_line r off len) = HintsInside regions r off len
-Fits regions flush_line = Unit {0}
-Fits regions (unmap_line r) = r < length regions
+abbrev pub FitsRegions : List Region → Line → Type 0
+FitsRegions regions (map_line name backing size writable) = IsSize backing size
+FitsRegions regions (script_line name) = length name ≤ MOST_NAME_BYTES
+FitsRegions regions (load_line r off len) = LiesInside regions r off len
+FitsRegions regions (store_line r off bytes) = StoresInside regions r off bytes
+FitsRegions regions (prefetch_line r off len) = HintsInside regions r off len
+FitsRegions regions flush_line = Unit {0}
+FitsRegions regions (unmap_line r) = r < length regions
 
 abbrev pub AllFit : List Region → List Line → Type 0
 AllFit regions [] = Unit {0}
-AllFit regions (l ∷ ls) = Fits regions l × AllFit regions ls
+AllFit regions (l ∷ ls) = FitsRegions regions l × AllFit regions ls
 
 -- the lines can be run: every command fits its region, and the limits hold
 pub record IsRunnable (lines : List Line) : Type 0 where

@@ -78,8 +78,8 @@ abbrev pub region_from : ℕ → List Region → List ℕ → Option ℕ
 region_from n [] name = None
 region_from n (g ∷ gs) name = if bytes_eq g.name name then Some n else region_from (n + 1) gs name
 
-abbrev pub region_of : Said → List ℕ → Option ℕ
-region_of s name = region_from 0 s.regions name
+abbrev pub region_by_name : Said → List ℕ → Option ℕ
+region_by_name s name = region_from 0 s.regions name
 
 abbrev pub mode_text : Bool → List ℕ
 mode_text true = codes "rw"
@@ -122,16 +122,16 @@ most_size (in_file path) = MOST_STORED_BYTES
 most_size (in_files path file) = MOST_STORED_BYTES
 
 -- files have a path, and files of a folder a length
-abbrev pub IsPlace : Backing → Type 0
-IsPlace in_memory = Unit {0}
-IsPlace (in_file path) = is_path path ≡ true
-IsPlace (in_files path file) = (is_path path ≡ true) × (1 ≤ file) × (file ≤ MOST_STORED_BYTES)
+abbrev pub IsBacking : Backing → Type 0
+IsBacking in_memory = Unit {0}
+IsBacking (in_file path) = is_path path ≡ true
+IsBacking (in_files path file) = (is_path path ≡ true) × (1 ≤ file) × (file ≤ MOST_STORED_BYTES)
 
 -- a region may come: above all scripts, and there are fewer than the most
 pub record MayMap (s : Said) (name : List ℕ) (backing : Backing) (size : ℕ) : Type 0 where
   pub above : s.scripts ≡ []
   pub named : is_name name ≡ true
-  pub place : IsPlace backing
+  pub place : IsBacking backing
   pub least : 1 ≤ size
   pub most : size ≤ most_size backing
   pub few : length s.regions < MOST_REGIONS
@@ -149,7 +149,7 @@ pub record MayCommand (s : Said) : Type 0 where
 
 -- it may name a region, which it does as the first of its name
 abbrev pub MayName : Said → (region : ℕ) → Type 0
-MayName s r = region_of s (name_at s.regions r) ≡ Some r
+MayName s r = region_by_name s (name_at s.regions r) ≡ Some r
 
 -- a command may reach so many bytes of a region
 pub record MayReach (s : Said) (r off len : ℕ) : Type 0 where
@@ -163,7 +163,7 @@ pub record MayLoad (s : Said) (r off len : ℕ) : Type 0 where
   pub short : len ≤ MOST_ACCESS_BYTES
   pub room : s.loaded + len ≤ MOST_LOADED_BYTES
 
-pub record MayStore (s : Said) (r off : ℕ) (bytes : List ℕ) : Type 0 where
+pub record MayStoreBytes (s : Said) (r off : ℕ) (bytes : List ℕ) : Type 0 where
   pub reach : MayReach s r off (length bytes)
   pub some : 1 ≤ length bytes
   pub short : length bytes ≤ MOST_ACCESS_BYTES
@@ -174,7 +174,7 @@ pub record MayPrefetch (s : Said) (r off len : ℕ) : Type 0 where
   pub reach : MayReach s r off len
   pub short : len ≤ MOST_STORED_BYTES
 
-pub record MayUnmap (s : Said) (r : ℕ) : Type 0 where
+pub record MayUnmapRegion (s : Said) (r : ℕ) : Type 0 where
   pub command : MayCommand s
   pub first : MayName s r
 
@@ -183,10 +183,10 @@ abbrev pub Allowed : Said → Line → Type 0
 Allowed s (map_line name backing size writable) = MayMap s name backing size
 Allowed s (script_line name) = MayBegin s name
 Allowed s (load_line r off len) = MayLoad s r off len
-Allowed s (store_line r off bytes) = MayStore s r off bytes
+Allowed s (store_line r off bytes) = MayStoreBytes s r off bytes
 Allowed s (prefetch_line r off len) = MayPrefetch s r off len
 Allowed s flush_line = MayCommand s
-Allowed s (unmap_line r) = MayUnmap s r
+Allowed s (unmap_line r) = MayUnmapRegion s r
 
 -- an empty line, or one that begins with `#`
 abbrev pub is_silent : List ℕ → Bool

@@ -6,6 +6,6 @@ use Rattle.workload_text.specs.declared.refusal.LineFault.{LineFault}
 use Rattle.workload_text.specs.declared.refusal.LineFault.TheVariants as line
 
 -- the fault of a text, by that of its line of this number
-abbrev pub fault_at : ℕ → LineFault → TextFault
-fault_at n (line.Refused kind) = Refused n kind
-fault_at n line.OutOfMemory = OutOfMemory
+abbrev pub text_fault_at : ℕ → LineFault → TextFault
+text_fault_at n (line.Refused kind) = Refused n kind
+text_fault_at n line.OutOfMemory = OutOfMemory

@@ -8,7 +8,7 @@ use Rattle.std.specs.List.{list_any, slice_split}
 use Rattle.hex.specs.Hex.{encode_lower}
 use Rattle.page_base.specs.declared.limits.TheConstants.{MOST_REGIONS}
 use Rattle.workload_text.specs.declared.limits.TheConstants.{MOST_MEMORY_BYTES, MOST_STORED_BYTES, MOST_SCRIPTS, MOST_COMMANDS, MOST_ACCESS_BYTES, MOST_LOADED_BYTES}
-use Rattle.workload_text.specs.Grammar.{Said, is_name, is_path, is_silent, mode_text, region_of, size_at, writable_at}
+use Rattle.workload_text.specs.Grammar.{Said, is_name, is_path, is_silent, mode_text, region_by_name, size_at, writable_at}
 use Rattle.workload_text.specs.Reading.{is_empty, is_space}
 use Rattle.workload_text.specs.declared.refusal.TextKind.{TextKind}
 use Rattle.workload_text.specs.declared.refusal.TextKind.TheVariants as kind
@@ -125,7 +125,7 @@ NamesBytes fields len =
 
 -- the range of a region that a load, a store or a hint names
 pub record NamesRange (s : Said) (fields : List (List ℕ)) (r off len : ℕ) : Type 0 where
-  pub region : region_of s (field_at fields 1) ≡ Some r
+  pub region : region_by_name s (field_at fields 1) ≡ Some r
   pub from : IsNumber 0 MOST_STORED_BYTES (field_at fields 2) off
   pub length_is : NamesLength fields len ⊎ NamesBytes fields len
 
@@ -157,7 +157,7 @@ pub data IsTooMany (s : Said) (fields : List (List ℕ)) : Type 0 where
 
 -- it names a region that is mapped `ro`
 abbrev pub NamesReadOnly : Said → List (List ℕ) → Type 0
-NamesReadOnly s fields = (r : ℕ) × (region_of s (field_at fields 1) ≡ Some r) × (writable_at s.regions r ≡ false)
+NamesReadOnly s fields = (r : ℕ) × (region_by_name s (field_at fields 1) ≡ Some r) × (writable_at s.regions r ≡ false)
 
 -- the kind applies to a line of these fields, behind lines that have said s; that a text is too long or unended is no
 -- matter of a line's fields
@@ -172,7 +172,7 @@ AppliesTo kind.Path s fs = IsMisspelt kind.Path fs
 AppliesTo kind.Number s fs = IsMisspelt kind.Number fs
 AppliesTo kind.Hex s fs = IsMisspelt kind.Hex fs
 AppliesTo kind.Mode s fs = IsMisspelt kind.Mode fs
-AppliesTo kind.Unknown s fs = (names_region fs ≡ true) × (region_of s (field_at fs 1) ≡ None)
+AppliesTo kind.Unknown s fs = (names_region fs ≡ true) × (region_by_name s (field_at fs 1) ≡ None)
 AppliesTo kind.Double s fs = (begins_with (codes "script") fs ≡ true) × Contains s.scripts (field_at fs 1)
 AppliesTo kind.Range s fs = (r off len : ℕ) × NamesRange s fs r off len × (size_at s.regions r < off + len)
 AppliesTo kind.ReadOnly s fs = (begins_with (codes "store") fs ≡ true) × NamesReadOnly s fs

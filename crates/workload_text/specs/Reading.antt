@@ -10,7 +10,7 @@ use Prim.Native.Char.{code}
 use Rattle.page_base.specs.declared.limits.TheConstants.{MOST_REGIONS}
 use Rattle.workload_text.specs.declared.limits.TheConstants.{MOST_MEMORY_BYTES, MOST_STORED_BYTES, MOST_SCRIPTS, MOST_COMMANDS, MOST_ACCESS_BYTES, MOST_LOADED_BYTES}
 use Rattle.workload_text.specs.Line.{Line, TextLine, says, silent, map_line, script_line, load_line, store_line, prefetch_line, flush_line, unmap_line}
-use Rattle.workload_text.specs.Grammar.{Said, is_name, is_path, is_silent, region_of, size_at, writable_at}
+use Rattle.workload_text.specs.Grammar.{Said, is_name, is_path, is_silent, region_by_name, size_at, writable_at}
 use Rattle.workload_text.specs.declared.refusal.TextKind.{TextKind}
 use Rattle.workload_text.specs.declared.refusal.TextKind.TheVariants as kind
 
@@ -137,7 +137,7 @@ read_load s name off len =
     else do
       o ← or_refused kind.Number (number_of 0 MOST_STORED_BYTES off)
       n ← or_refused kind.Number (number_of 0 MOST_ACCESS_BYTES len)
-      r ← or_refused kind.Unknown (region_of s name)
+      r ← or_refused kind.Unknown (region_by_name s name)
       if not (nat_le (o + n) (size_at s.regions r)) then Err kind.Range
           else if nat_lt s.commands MOST_COMMANDS && nat_le (s.loaded + n) MOST_LOADED_BYTES then Ok (load_line r o n)
           else Err kind.Many
@@ -149,7 +149,7 @@ read_store s name off hex =
     else do
       o ← or_refused kind.Number (number_of 0 MOST_STORED_BYTES off)
       bytes ← or_refused kind.Hex (bytes_of hex)
-      r ← or_refused kind.Unknown (region_of s name)
+      r ← or_refused kind.Unknown (region_by_name s name)
       if not (nat_le (o + length bytes) (size_at s.regions r)) then Err kind.Range
           else if not (writable_at s.regions r) then Err kind.ReadOnly
           else if nat_lt s.commands MOST_COMMANDS then Ok (store_line r o bytes)
@@ -162,7 +162,7 @@ read_prefetch s name off len =
     else do
       o ← or_refused kind.Number (number_of 0 MOST_STORED_BYTES off)
       n ← or_refused kind.Number (number_of 0 MOST_STORED_BYTES len)
-      r ← or_refused kind.Unknown (region_of s name)
+      r ← or_refused kind.Unknown (region_by_name s name)
       if not (nat_le (o + n) (size_at s.regions r)) then Err kind.Range
           else if nat_lt s.commands MOST_COMMANDS then Ok (prefetch_line r o n)
           else Err kind.Many
@@ -178,7 +178,7 @@ read_unmap s name =
     if is_empty s.scripts then Err kind.Order
     else if not (is_name name) then Err kind.Name
     else do
-      r ← or_refused kind.Unknown (region_of s name)
+      r ← or_refused kind.Unknown (region_by_name s name)
       if nat_lt s.commands MOST_COMMANDS then Ok (unmap_line r) else Err kind.Many
 
 -- ---- one line

@@ -3,7 +3,7 @@
 //! The kinds stand in the order in which the tests of one line come.
 
 ghost use Rattle.std.specs.Prelude.{◌≡◌};
-ghost use Rattle.workload_text.specs.InsideAnswers.{fault_at};
+ghost use Rattle.workload_text.specs.InsideAnswers.{text_fault_at};
 ghost use Rattle.workload_text.specs.declared.refusal.TextFault.TheVariants as text;
 ghost use Rattle.workload_text.specs.declared.refusal.LineFault.TheVariants as line;
 
@@ -71,7 +71,7 @@ impl From<OutOfMemory> for LineFault {
 impl LineFault {
     /// The fault of a text that has this line.
     pub fn at(self, line: u32) -> TextFault
-        ensures { result ≡ fault_at line self }
+        ensures { result ≡ text_fault_at line self }
     {
         match self {
             LineFault::Refused(kind) => TextFault::Refused { line, kind },

@@ -4,7 +4,7 @@ ghost use Rattle.page_base.specs.declared.keys.Key.{Key};
 ghost use Rattle.page_base.specs.declared.limits.TheConstants.{MOST_STRIPES};
 ghost use Rattle.serial_pager.specs.Holdings.{AreBytesAt, stored_over};
 ghost use Rattle.serial_pager.specs.InsideSound.{MayFlushEach, FlushesEach, FlushesAll, AreStored, SomeRose, all_made};
-ghost use Rattle.serial_pager.specs.Pagers.{IsPiece, IsSame, IsWithin, LoadsPiece, StoresPiece, FailsToLoad, FailsToStore, ForEachLane, ForSomeLane, WroteDirty, journals_made, HoldsSame, HoldsOthers, KeepsUnowed, CountsGrow, NamesFault, RoseAt, IsTried, IsKept, has_page, is_writable, stripe_at, held, kept, owes};
+ghost use Rattle.serial_pager.specs.Pagers.{IsPiece, IsSame, IsWithin, LoadsPiece, StoresPiece, FailsToLoad, FailsToStore, ForEachLane, ForSomeLane, WroteDirty, journals_made, HoldsSame, HoldsOthers, KeepsUnowed, CountsGrow, NamesFault, RoseAt, IsTried, IsKept, has_key, is_writable, stripe_at, held, kept, owes};
 
 use crate::fault::PageFault;
 use crate::laws::model_laws;
@@ -49,7 +49,7 @@ impl<S: Store, J: Journal> SerialPager<S, J> {
 
     /// The stripe that a page lies in.
     fn stripe_of(&self, key: Key) -> usize
-        requires page { has_page self.now key ≡ true }
+        requires page { has_key self.now key ≡ true }
         ensures stripe { result ≡ stripe_at self.now key }
         ensures below { result < length self.now.stripes }
     {

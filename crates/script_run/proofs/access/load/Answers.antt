@@ -8,13 +8,13 @@ use Rattle.region_table.specs.Covers.{IsNext}
 use Rattle.region_table.specs.Cuts.{rest_of}
 use Rattle.region_table.specs.Pieces.{pieces_of}
 use Rattle.page_base.specs.declared.keys.Piece.{Piece}
-use Rattle.store_trait.specs.Memory.{page_of}
+use Rattle.store_trait.specs.Memory.{page_bytes}
 use Rattle.serial_pager.specs.Accesses.{is_read}
 use Rattle.serial_pager.specs.Holdings as one
 use Rattle.serial_pager.specs.Pagers.{IsPiece, held}
 use Rattle.script_run.specs.FitsSerial.{piece_key}
 use Rattle.page_model.specs.Pieces.{loads}
-use Rattle.script_run.specs.InsideRanges.{key_of, GoesBy}
+use Rattle.script_run.specs.InsideRanges.{range_key, GoesBy}
 use Rattle.script_run.proofs.Pieces.{length-put_mid}
 use Rattle.script_run.proofs.Accesses.{loaded_more}
 use Rattle.script_run.proofs.Makings.{by_none, by_access, by_failure, FailsBy}
@@ -113,7 +113,7 @@ loop-piece-preserved g c =
       held = held_more p now new i.goes.same i.held e.held;
       owes = λ k owed. i.owes k (e.owes k owed);
       front = λ bytes h.
-          let there : held now piece.key ≡ Some (page_of z bytes piece.key.page) = i.held piece.key (has_piece z c.args.region off len done piece next p now c.requires.range i.goes.same refl) ∙ ap (held p) (key_is z c.args.region off len done piece next) ∙ h.each piece.key.page (page_below z c.args.region off len done piece next p now c.requires.range i.goes.same refl) in
+          let there : held now piece.key ≡ Some (page_bytes z bytes piece.key.page) = i.held piece.key (has_piece z c.args.region off len done piece next p now c.requires.range i.goes.same refl) ∙ ap (held p) (key_is z c.args.region off len done piece next) ∙ h.each piece.key.page (page_below z c.args.region off len done piece next p now c.requires.range i.goes.same refl) in
           let inside : off + length buf ≤ length bytes = omega (arith, c.requires.range.inside, h.whole, c.loop-piece.auto.buf) in
           let same : bytes_read ≡ take piece.len (drop (piece.key.page * z + piece.place) bytes) = piece_is z piece.key.page piece.place piece.len bytes bytes_read (held now piece.key) there e.bytes long next.at.within (omega (arith, next.at.begins, fits, inside)) in
           loaded_more buf bytes_read bytes off done piece.len (piece.key.page * z + piece.place) fits inside long same next.at.begins (i.front bytes h) (done + piece.len - done) (done + piece.len) (omega arith) refl;
@@ -165,7 +165,7 @@ returns-in-Err-clause-fault g c =
     let f = c.in-Err.fault in
     let now = c.loop-piece.pager in
     let new = c.load.new.self in
-    let ended : piece.key ≡ piece_key z c.args.region (off + done) = key_is z c.args.region off len done piece next ∙ ap (key_of c.args.region) (sym (page_is z c.args.region off len done piece next)) in
+    let ended : piece.key ≡ piece_key z c.args.region (off + done) = key_is z c.args.region off len done piece next ∙ ap (range_key c.args.region) (sym (page_is z c.args.region off len done piece next)) in
     let fails : FailsBy g.J.Journal.has_noted (loads front (take done c.loop-piece.buf)) (piece_key z c.args.region (off + done)) f p new = by_failure g.J.Journal.has_noted (loads front (take done c.loop-piece.buf)) p now new piece.key (piece_key z c.args.region (off + done)) is_read (λ x. one.owes x.core) f i.goes.same ended i.made e.err e.fault.stripe in (
       done,
       faults_at p now new c.args.region off len done z piece (λ k. ⊥) f next i.goes (λ k h. inl (i.owes k h)) refl e.fault,

@@ -4,12 +4,12 @@ use Rattle.region_table.specs.Cuts.{rest_of}
 use Rattle.region_table.specs.Pieces.{pieces_of}
 use Rattle.serial_pager.specs.Pagers.{owes, HoldsSame, journals_made}
 use Rattle.page_model.specs.Pieces.{loads, bytes_in}
-use Rattle.script_run.specs.InsideRanges.{HoldsRegion, GoesOn, GoesBy}
+use Rattle.script_run.specs.InsideRanges.{HoldsRegion, RangeGoesOn, GoesBy}
 use Rattle.script_run.proofs.access.load.Given as goal
 
 abbrev pub invariant-loop-piece : goal.invariant-loop-piece
 invariant-loop-piece g l = record {
-  goes : GoesOn l.done l.initial.pager l.pager;
+  goes : RangeGoesOn l.done l.initial.pager l.pager;
   within : l.done ≤ length l.buf;
   pieces : pieces_of l.initial.pager.page_size l.region l.off (length l.initial.buf) ≡ l.yielded ++ rest_of l.piece-iterator;
   bytes : bytes_in l.yielded ≡ l.done;

@@ -15,7 +15,7 @@ use Rattle.serial_pager.specs.Holdings.{is_for_store}
 use Rattle.serial_pager.specs.Pagers.{IsPiece, may_store, held}
 use Rattle.script_run.specs.FitsSerial.{StoresTo, piece_key}
 use Rattle.page_model.specs.Pieces.{saves}
-use Rattle.script_run.specs.InsideRanges.{key_of, HoldsRegion, GoesBy}
+use Rattle.script_run.specs.InsideRanges.{range_key, HoldsRegion, GoesBy}
 use Rattle.script_run.proofs.Accesses.{spliced-spliced}
 use Rattle.script_run.proofs.Makings.{by_none, by_access, by_failure, FailsBy}
 use Rattle.script_run.proofs.Ranged.{all_bytes, goes_none, goes_more, goes_within, one_piece, same_page, key_is, page_is, page_below, is_piece, faults_at, region_stored, region_kept, spliced_none, stores_to, same_pages}
@@ -135,7 +135,7 @@ loop-piece-preserved g c =
       front = λ b h.
           let inside : off + length bytes ≤ length b = omega (arith, c.requires.range.inside, h.whole) in
           let b' = spliced b off (take done bytes) in
-          let here : held new (key_of c.args.region piece.key.page) ≡ option_map (λ xs. spliced xs piece.place stored) (held now (key_of c.args.region piece.key.page)) = subst (λ k. held new k ≡ option_map (λ xs. spliced xs piece.place stored) (held now k)) key e.bytes in
+          let here : held new (range_key c.args.region piece.key.page) ≡ option_map (λ xs. spliced xs piece.place stored) (held now (range_key c.args.region piece.key.page)) = subst (λ k. held new k ≡ option_map (λ xs. spliced xs piece.place stored) (held now k)) key e.bytes in
           let step = region_stored now new c.args.region piece.key.page piece.place z b' stored e.same i.goes.same.page_size (subst (λ m. piece.key.page < m) (sym (same_pages p now i.goes.same c.args.region)) (page_below z c.args.region off len done piece next p now c.requires.range i.goes.same refl)) (omega (arith, part, next.at.within)) here (λ k has ne. e.others k has (λ h. ne (h ∙ key))) (i.front b h) in
           let exact : spliced b' (piece.key.page * z + piece.place) stored ≡ spliced b off (take (done + piece.len) bytes) =
           ap (λ j. spliced b' j stored) next.at.begins ∙ ap (λ m. spliced b' (off + done) (take m (drop done bytes))) count ∙ spliced-spliced b bytes off done piece.len inside next.short in
@@ -211,7 +211,7 @@ returns-in-Err-clause-fault g c =
     let f = c.in-Err.fault in
     let now = c.loop-piece.pager in
     let new = c.store.new.self in
-    let ended : piece.key ≡ piece_key z c.args.region (off + done) = key_is z c.args.region off len done piece next ∙ ap (key_of c.args.region) (sym (page_is z c.args.region off len done piece next)) in
+    let ended : piece.key ≡ piece_key z c.args.region (off + done) = key_is z c.args.region off len done piece next ∙ ap (range_key c.args.region) (sym (page_is z c.args.region off len done piece next)) in
     let fails : FailsBy g.J.Journal.has_noted (saves front bytes) (piece_key z c.args.region (off + done)) f p new = by_failure g.J.Journal.has_noted (saves front bytes) p now new piece.key (piece_key z c.args.region (off + done)) is_for_store (λ x. one.owes_with x.core piece.key) f i.goes.same ended i.made e.err e.fault.stripe in (
       done,
       faults_at p now new c.args.region off len done z piece (λ k. StoresTo z k (store_line c.args.region off bytes)) f next i.goes i.owes refl e.fault,

@@ -2,7 +2,7 @@ use Rattle.std.proofs.Common.{◌≡◌, ◌+◌, ◌*◌, ◌%◌, ◌≤◌, �
 use Rattle.std.proofs.lemmas.Nat.{mul-le}
 use Rattle.std.proofs.Math.Nat.{mod-eq_of_lt, div-eq_of_lt, add-mod_right}
 use Rattle.store_trait.proofs.Shares.{no_share, share_more, share_len}
-use Rattle.store_trait.specs.Memory.{page_of}
+use Rattle.store_trait.specs.Memory.{page_bytes}
 use Rattle.store_trait.proofs.mem_lane.share_of.Goals as goal
 
 pub loop-page-init : goal.loop-page-init
@@ -21,7 +21,7 @@ loop-page-preserved c =
     let page = c.loop-page.page in
     let size = c.args.page_size in
     let fits : page * size + size ≤ length c.args.contents.now = omega (arith, mul-le (page + 1) size c.args.pages size (omega arith) (omega arith)) in
-    let items : c.extend_from_slice.new.self.items ≡ c.loop-page.own.items ++ page_of size c.args.contents.now page = search rules in
+    let items : c.extend_from_slice.new.self.items ≡ c.loop-page.own.items ++ page_bytes size c.args.contents.now page = search rules in
     record {
       residue = rw c.from-page-in-loop-page.ensures (add-mod_right page c.args.stripes ∙ i.residue);
       len = rw (items, c.from-page-in-loop-page.ensures) (share_len size c.args.stripes c.args.first page c.args.contents.now c.loop-page.own.items c.requires.some i.residue i.len fits i.share);

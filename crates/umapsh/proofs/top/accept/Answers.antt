@@ -6,7 +6,7 @@ use Rattle.workload_text.specs.View.{region, lines_of}
 use Rattle.workload_text.specs.declared.workload.MapLine.{MapLine}
 use Rattle.workload_text.specs.declared.workload.Parsed.{Parsed}
 use Rattle.script_run.specs.Fits.{has_whole_pages}
-use Rattle.script_run.specs.RegionRules.{region_seen}
+use Rattle.script_run.specs.RegionRules.{named_region}
 use Rattle.umapsh.proofs.Refused.{Laws, text_stops, same_call, table_is, as_many, region_stops, unbuilt_refused, unrefused}
 use Rattle.umapsh.proofs.top.accept.Goals as goal
 
@@ -26,7 +26,7 @@ table_of_maps-requires-clause-as_many c =
     let p = c.in-Ok.parsed in
     ap (length {A = ℕ}) c.as_slice-lines.ensures
     ∙ as_many laws c.args.bytes.now p.workload p.map_lines.items c.in-Ok.ensures.spelt c.in-Ok.ensures.numbered
-    ∙ length-map p.workload.maps.items region_seen
+    ∙ length-map p.workload.maps.items named_region
     ∙ sym (ap (length {A = MapLine}) c.as_slice-maps.ensures)
 
 pub returns-in-Err-table_of_maps-clause-stop : goal.returns-in-Err-table_of_maps-clause-stop

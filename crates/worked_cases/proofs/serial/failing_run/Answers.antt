@@ -6,7 +6,7 @@ use Rattle.workload_text.specs.Grammar.{Region}
 use Rattle.workload_text.specs.Accepted.{regions_of}
 use Rattle.workload_text.specs.View.{lines_of}
 use Rattle.script_run.specs.Contents.{origins_of}
-use Rattle.script_run.specs.Fits.{FitLanes, row_origins, pages_of}
+use Rattle.script_run.specs.Fits.{FitLanes, row_origins, page_counts}
 use Rattle.worked_cases.proofs.serial.failing_run.Goals as goal
 
 -- lanes fit by their origins alone
@@ -16,7 +16,7 @@ fit_same layout gs rows wrapped fit e =
     record {
       stripes = len ∙ fit.stripes;
       whole = fit.whole;
-      lanes = λ s below. ap (λ (os : List (List Origin)). get_or os s []) e ∙ fit.lanes s (omega (arith, below, len)) ∙ ap (λ n. row_origins layout.page_size n s (pages_of layout.page_size gs)) (sym len);
+      lanes = λ s below. ap (λ (os : List (List Origin)). get_or os s []) e ∙ fit.lanes s (omega (arith, below, len)) ∙ ap (λ n. row_origins layout.page_size n s (page_counts layout.page_size gs)) (sym len);
     }
 
 pub serial-ran-requires-clause-lanes : goal.serial-ran-requires-clause-lanes

@@ -1,6 +1,6 @@
 use Rattle.std.proofs.Common.{◌≡◌, ◌+◌, ◌*◌, [], ◌∷◌, ◌++◌, Some, Option, length, sym, ap, subst, ◌∙◌, arith, option_to_list, length-append, ℕ}
 use denote.RawPtr.{block_ptr, ◌+ₚ◌}
-use Rattle.frame_arena.specs.Frames.{ArenaId, FrameSeen, ArenaSeen, held}
+use Rattle.frame_arena.specs.Frames.{ArenaId, ArenaFrame, ArenaSeen, held}
 use Rattle.frame_arena.specs.InsideArenas.{IsShelf}
 use Rattle.frame_arena.proofs.Shelved.{shelf_full, popped, last_held}
 use Rattle.frame_arena.proofs.arena.FrameArena.free.Goals as goal
@@ -14,7 +14,7 @@ unwrap-requires-2 c =
     let view = c.self.view_is in
     let all = ap (λ (s : ArenaSeen). held s.slots) view ∙ c.requires.all ∙ sym (ap (λ (s : ArenaSeen). s.frames) view) ∙ sym c.self.invariant.many in
     let full = shelf_full id 0 c.self.inside.slots.items (subst (λ (a : ArenaId). IsShelf a 0 c.self.inside.slots.items) (ap (λ (s : ArenaSeen). s.arena) view) c.self.invariant.shelf) all in
-    last_held id c.self.inside.slots.items c.pop.new.self.items c.unwrap.result full (c.pop.ensures.items ∙ ap (λ (r : Option (Option FrameSeen)). c.pop.new.self.items ++ option_to_list r) c.unwrap.ensures)
+    last_held id c.self.inside.slots.items c.pop.new.self.items c.unwrap.result full (c.pop.ensures.items ∙ ap (λ (r : Option (Option ArenaFrame)). c.pop.new.self.items ++ option_to_list r) c.unwrap.ensures)
 
 pub loop-init : goal.loop-init
 loop-init c =
@@ -23,7 +23,7 @@ loop-init c =
     let view = c.self.view_is in
     let all = ap (λ (s : ArenaSeen). held s.slots) view ∙ c.requires.all ∙ sym (ap (λ (s : ArenaSeen). s.frames) view) ∙ sym c.self.invariant.many in
     let full = shelf_full id 0 c.self.inside.slots.items (subst (λ (a : ArenaId). IsShelf a 0 c.self.inside.slots.items) (ap (λ (s : ArenaSeen). s.arena) view) c.self.invariant.shelf) all in
-    let items = c.pop.ensures.items ∙ ap (λ (r : Option (Option FrameSeen)). c.pop.new.self.items ++ option_to_list r) (c.unwrap.ensures ∙ ap (λ (o : Option FrameSeen). Some o) c.unwrap-2.ensures) in
+    let items = c.pop.ensures.items ∙ ap (λ (r : Option (Option ArenaFrame)). c.pop.new.self.items ++ option_to_list r) (c.unwrap.ensures ∙ ap (λ (o : Option ArenaFrame). Some o) c.unwrap-2.ensures) in
     let p = popped id c.self.inside.slots.items c.pop.new.self.items f full items in
     record {
       full = p.0;
@@ -34,14 +34,14 @@ loop-init c =
 
 pub unwrap-requires-in-loop-2 : goal.unwrap-requires-in-loop-2
 unwrap-requires-in-loop-2 c =
-    last_held c.args.self.arena c.loop.slots.items c.pop-in-loop.new.self.items c.unwrap-in-loop.result c.loop.invariant.full (c.pop-in-loop.ensures.items ∙ ap (λ (r : Option (Option FrameSeen)). c.pop-in-loop.new.self.items ++ option_to_list r) c.unwrap-in-loop.ensures)
+    last_held c.args.self.arena c.loop.slots.items c.pop-in-loop.new.self.items c.unwrap-in-loop.result c.loop.invariant.full (c.pop-in-loop.ensures.items ∙ ap (λ (r : Option (Option ArenaFrame)). c.pop-in-loop.new.self.items ++ option_to_list r) c.unwrap-in-loop.ensures)
 
 pub join-bytes-requires : goal.join-bytes-requires
 join-bytes-requires c =
     let id = c.args.self.arena in
     let f = c.unwrap-in-loop-2.result in
     let rest = c.pop-in-loop.new.self.items in
-    let items = c.pop-in-loop.ensures.items ∙ ap (λ (r : Option (Option FrameSeen)). rest ++ option_to_list r) (c.unwrap-in-loop.ensures ∙ ap (λ (o : Option FrameSeen). Some o) c.unwrap-in-loop-2.ensures) in
+    let items = c.pop-in-loop.ensures.items ∙ ap (λ (r : Option (Option ArenaFrame)). rest ++ option_to_list r) (c.unwrap-in-loop.ensures ∙ ap (λ (o : Option ArenaFrame). Some o) c.unwrap-in-loop-2.ensures) in
     let p = popped id c.loop.slots.items rest f c.loop.invariant.full items in
     let place : c.into_piece.result.place ≡ block_ptr id.block (id.start + length rest * id.page_size) = c.into_piece.ensures.place ∙ (λ i. block_ptr (p.1.1 i).block ((p.1.1 i).start + p.1.0 i * (p.1.1 i).page_size)) in
     let size = c.into_piece.ensures.size ∙ ap (λ (a : ArenaId). a.page_size) p.1.1 in
@@ -55,7 +55,7 @@ loop-preserved c =
     let id = c.args.self.arena in
     let f = c.unwrap-in-loop-2.result in
     let rest = c.pop-in-loop.new.self.items in
-    let items = c.pop-in-loop.ensures.items ∙ ap (λ (r : Option (Option FrameSeen)). rest ++ option_to_list r) (c.unwrap-in-loop.ensures ∙ ap (λ (o : Option FrameSeen). Some o) c.unwrap-in-loop-2.ensures) in
+    let items = c.pop-in-loop.ensures.items ∙ ap (λ (r : Option (Option ArenaFrame)). rest ++ option_to_list r) (c.unwrap-in-loop.ensures ∙ ap (λ (o : Option ArenaFrame). Some o) c.unwrap-in-loop-2.ensures) in
     let p = popped id c.loop.slots.items rest f c.loop.invariant.full items in
     let size = c.into_piece.ensures.size ∙ ap (λ (a : ArenaId). a.page_size) p.1.1 in
     let one : length c.loop.slots.items ≡ length rest + 1 = ap length items ∙ length-append rest (Some f ∷ []) in

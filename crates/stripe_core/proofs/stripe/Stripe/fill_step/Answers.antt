@@ -3,7 +3,7 @@ use Rattle.std.specs.Prelude.{vec_capacity}
 use Rattle.std.proofs.lemmas.List.{length-map}
 use Rattle.page_base.specs.Pages.{on_mark}
 use Rattle.soft_mmu.specs.declared.entry.PageEntry.TheVariants.{Present}
-use Rattle.soft_mmu.specs.Entries.{entry_of, with_entry}
+use Rattle.soft_mmu.specs.Entries.{table_entry, with_entry}
 use Rattle.page_buffer.specs.Frames as frame
 use Rattle.page_buffer.specs.Buffers.{frame_of}
 use Rattle.page_model.specs.Core.{Core, RegionSeen, Home, place_passes, is_reading}
@@ -43,7 +43,7 @@ fill-requires-clause-reserved g c =
 pub install-requires-clause-absent : goal.install-requires-clause-absent
 install-requires-clause-absent g c =
     let s = c.self.inside in
-    absent_entry c.args.self.now s.buffer c.args.key (entry_of s.table c.args.key) (at_now c.args.self.now s.table s.buffer _ c.args.key c.self.invariant.0 (ap (λ (v : Core). v.pages) c.self.view_is)) c.requires.absent
+    absent_entry c.args.self.now s.buffer c.args.key (table_entry s.table c.args.key) (at_now c.args.self.now s.table s.buffer _ c.args.key c.self.invariant.0 (ap (λ (v : Core). v.pages) c.self.view_is)) c.requires.absent
 
 pub invariant_of-self : goal.invariant_of-self
 invariant_of-self g c =
@@ -54,7 +54,7 @@ invariant_of-self g c =
     let out = passing g.S.Store.seen s.regions.items r (λ p. core.reads p c.args.key) (ap (λ (v : Core). is_reading v c.args.key) c.self.view_is ∙ c.requires.reading) in
     let kept = ended s.table s.buffer s.regions.items c.args.key out.region c.into_read-read.ensures.is.0 c.into_read-read.result.why f c.self.invariant.0 out.is (sym (c.swap_lane.ensures.lane out.region out.is) ∙ c.into_read-read.ensures.is.1) in
     let has = c.self.invariant.1.table c.args.key (ap (λ (v : Core). has_page v.setup c.args.key) c.self.view_is ∙ c.requires.page) in
-    let absent = absent_entry c.args.self.now s.buffer c.args.key (entry_of s.table c.args.key) (at_now c.args.self.now s.table s.buffer _ c.args.key c.self.invariant.0 (ap (λ (v : Core). v.pages) c.self.view_is)) c.requires.absent in
+    let absent = absent_entry c.args.self.now s.buffer c.args.key (table_entry s.table c.args.key) (at_now c.args.self.now s.table s.buffer _ c.args.key c.self.invariant.0 (ap (λ (v : Core). v.pages) c.self.view_is)) c.requires.absent in
     let new = record out.region { lane = lane.Home c.args.lane } in
     let filled_in = fill_tied s.table s.buffer (reads_of s.regions.items) c.args.key f (not w) w c.args.bytes.now c.self.invariant.0 kept has absent in
     let tied : Tied (with_entry s.table c.args.key (Present (not w) w f)) (filled_with s.buffer f c.args.key c.args.bytes.now) (reads_of (slice_set s.regions.items r new)) = rw (reads_changed s.regions.items r new) filled_in in
@@ -74,7 +74,7 @@ returns g c =
     let was = sym (c.swap_lane.ensures.lane out.region out.is) ∙ c.into_read-read.ensures.is.1 in
     let kept = ended s.table s.buffer s.regions.items c.args.key out.region c.into_read-read.ensures.is.0 c.into_read-read.result.why f c.self.invariant.0 out.is was in
     let has = c.self.invariant.1.table c.args.key (ap (λ (v : Core). has_page v.setup c.args.key) c.self.view_is ∙ c.requires.page) in
-    let absent = absent_entry c.args.self.now s.buffer c.args.key (entry_of s.table c.args.key) (at_now c.args.self.now s.table s.buffer _ c.args.key c.self.invariant.0 (ap (λ (v : Core). v.pages) c.self.view_is)) c.requires.absent in
+    let absent = absent_entry c.args.self.now s.buffer c.args.key (table_entry s.table c.args.key) (at_now c.args.self.now s.table s.buffer _ c.args.key c.self.invariant.0 (ap (λ (v : Core). v.pages) c.self.view_is)) c.requires.absent in
     let new = record out.region { lane = lane.Home c.args.lane } in
     let pages = pages_filled s.table s.buffer (reads_of s.regions.items) c.args.key f (not w) w c.args.bytes.now c.self.invariant.0 kept has absent in
     let regions = changed_seen g.S.Store.seen s.regions.items r out.region new (placed (Home (g.S.Store.seen c.args.lane))) out.is refl in

@@ -1,7 +1,7 @@
 use Rattle.std.proofs.Common.{◌≡◌, ◌∙◌, ◌<◌, ◌≤◌, ◌+◌, ap, arith, refl, sym, subst, None, length, map, slice_get, slice_set, length-set}
 use Rattle.std.specs.Prelude.{vec_capacity, find}
 use Rattle.std.specs.Option.{is_some}
-use Rattle.soft_mmu.specs.Entries.{entry_of}
+use Rattle.soft_mmu.specs.Entries.{table_entry}
 use Rattle.page_buffer.specs.Frames.{Reserved, resident_key}
 use Rattle.page_buffer.specs.Buffers.{with_frame}
 use Rattle.fault_queue.specs.Queues.{pending_why, without, is_of}
@@ -40,7 +40,7 @@ pub reserve-frame-requires-clause-fresh : goal.reserve-frame-requires-clause-fre
 reserve-frame-requires-clause-fresh g c =
     let s = c.self.inside in
     let at = at_now c.args.self.now s.table s.buffer _ c.args.key c.self.invariant.0 (ap (λ (v : Core). v.pages) c.self.view_is) in
-    let absent = absent_entry c.args.self.now s.buffer c.args.key (entry_of s.table c.args.key) at c.requires.absent in
+    let absent = absent_entry c.args.self.now s.buffer c.args.key (table_entry s.table c.args.key) at c.requires.absent in
     let home = passing g.S.Store.seen s.regions.items c.args.key.region is_home_place (ap (λ gs. place_passes is_home_place (slice_get gs c.args.key.region)) (ap (λ (v : Core). v.regions) c.self.view_is) ∙ c.requires.home) in
     let none : read_at (reads_of s.regions.items) c.args.key.region ≡ None = read_is s.regions.items c.args.key.region home.region home.is ∙ home_reads_none g.S.Store.seen home.region.lane home.passes in
     no_frame s.table s.buffer (reads_of s.regions.items) c.args.key c.self.invariant.0 absent none
