@@ -18,6 +18,8 @@ int main(void)
     while (next_line(&text, &line)) {
         switch (line.kind) {
         case MAP:
+            if (line.path.length > 0)
+                fail("a region isn't in memory");
             regions[line.region] = zeros(line.length, 1);
             break;
         case SCRIPT:

@@ -1,4 +1,4 @@
-/* The second yardstick of bench/serial: the same texts by the paging protocol of `umapsh serial`, in plain C.
+/* A yardstick of bench/serial and of bench/files: the same texts by the paging protocol of `umapsh serial`, in plain C.
  *
  * A region's bytes lie in its store, and the pages in use lie in frames, of which there are few. What a program with
  * userfaultfd(2) leaves to the kernel is done here by code, for one thread. An access looks its page up in a page table.
@@ -15,6 +15,8 @@
  * Pages go round the stripes, and each stripe has a page table, frames and faults of its own. At the end each dirty page is
  * written, stripe by stripe and there in order of region and page.
  *
+ * A region's store is an array, or a file, which is opened for each page that is read or written, as the program does it.
+ *
  * Faults wait in a queue, and pages are protected before they are written, since in the protocol other threads may load and
  * store all the time. Here there is one thread: no more than one fault waits, no store comes between, and no page leaves
  * before a frame is wanted, whatever the watermarks say.
@@ -23,6 +25,8 @@
  * build: gcc -O2 -o paging paging.c
  */
 #include "workload.h"
+
+#include <fcntl.h>
 
 enum { PAGE_SIZE = 4096, MOST_STRIPES = 64, MOST_FAULTS = 64 };
 
@@ -73,7 +77,8 @@ struct stripe {
 };
 
 struct region {
-    uint8_t *store;
+    uint8_t *store; /* the bytes of a region in memory */
+    char *path;     /* the file of any other; NULL where it is in memory */
     uint32_t pages;
 };
 
@@ -85,14 +90,40 @@ static uint8_t scratch[PAGE_SIZE];
 
 /* ---- stores and page tables ---- */
 
+static int open_file(const char *path, int mode)
+{
+    int file = open(path, mode | O_CLOEXEC);
+    if (file < 0)
+        fail("a file can't be opened");
+    return file;
+}
+
 static void read_from_store(struct key key)
 {
-    memcpy(scratch, regions[key.region].store + (size_t)key.page * PAGE_SIZE, PAGE_SIZE);
+    const struct region *region = &regions[key.region];
+    size_t place = (size_t)key.page * PAGE_SIZE;
+    if (!region->path) {
+        memcpy(scratch, region->store + place, PAGE_SIZE);
+        return;
+    }
+    int file = open_file(region->path, O_RDONLY);
+    if (pread(file, scratch, PAGE_SIZE, (off_t)place) != PAGE_SIZE)
+        fail("a read failed");
+    close(file);
 }
 
 static void write_to_store(struct key key)
 {
-    memcpy(regions[key.region].store + (size_t)key.page * PAGE_SIZE, scratch, PAGE_SIZE);
+    const struct region *region = &regions[key.region];
+    size_t place = (size_t)key.page * PAGE_SIZE;
+    if (!region->path) {
+        memcpy(region->store + place, scratch, PAGE_SIZE);
+        return;
+    }
+    int file = open_file(region->path, O_WRONLY);
+    if (pwrite(file, scratch, PAGE_SIZE, (off_t)place) != PAGE_SIZE)
+        fail("a write failed");
+    close(file);
 }
 
 static entry *entry_of(struct stripe *stripe, struct key key)
@@ -346,14 +377,19 @@ static void open_stripes(uint32_t count, uint32_t frames)
         open_stripe(&stripes[i], frames / count + (i < frames % count));
 }
 
-static void map_region(uint32_t region, uint64_t length)
+static void map_region(const struct line *line)
 {
-    if (length % PAGE_SIZE != 0)
+    struct region *region = &regions[line->region];
+    if (line->length % PAGE_SIZE != 0)
         fail("a region isn't of whole pages");
-    regions[region] = (struct region){zeros(length, 1), (uint32_t)(length / PAGE_SIZE)};
-    region_count = region + 1;
+    region->pages = (uint32_t)(line->length / PAGE_SIZE);
+    if (line->path.length > 0)
+        region->path = strndup(line->path.bytes, line->path.length);
+    else
+        region->store = zeros(line->length, 1);
+    region_count = line->region + 1;
     for (uint32_t i = 0; i < stripe_count; i++)
-        stripes[i].tables[region] = zeros(regions[region].pages, sizeof(entry));
+        stripes[i].tables[line->region] = zeros(region->pages, sizeof(entry));
 }
 
 int main(int argc, char **argv)
@@ -372,7 +408,7 @@ int main(int argc, char **argv)
     while (next_line(&text, &line)) {
         switch (line.kind) {
         case MAP:
-            map_region(line.region, line.length);
+            map_region(&line);
             break;
         case SCRIPT:
             reply_script(&replies, &line);

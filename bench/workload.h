@@ -1,7 +1,7 @@
-/* What the C programs of bench/serial share: how they read a workload text, and how they write its replies.
+/* What the C programs of bench/serial and bench/files share: how they read a workload text, and how they write its replies.
  *
- * The texts are those of docs/FORMATS.md with regions in memory, loads and stores alone. They are trusted. Their lines are
- * read one by one, as the program runs them, and the replies are kept till the end.
+ * The texts are those of docs/FORMATS.md with regions in memory and in files, loads and stores alone. They are trusted. Their
+ * lines are read one by one, as the program runs them, and the replies are kept till the end.
  */
 #ifndef WORKLOAD_H
 #define WORKLOAD_H
@@ -45,6 +45,7 @@ struct line {
     uint32_t region;    /* by its number in the order of the map lines; a script has none */
     uint64_t off;       /* of a load and a store */
     uint64_t length;    /* of the region that is mapped, of a load and of a store, in bytes */
+    struct span path;   /* of the region that is mapped: its file; of no bytes where it is in memory */
     const char *digits; /* of a store: two for each byte */
 };
 
@@ -154,11 +155,13 @@ static bool next_line(struct text *text, struct line *line)
         line->length = (uint64_t)(feed - at) / 2;
     } else if (is_word(word, "script")) { /* script NAME */
         line->kind = SCRIPT;
-    } else if (is_word(word, "map")) { /* map NAME memory LENGTH MODE */
+    } else if (is_word(word, "map")) { /* map NAME memory LENGTH MODE, map NAME file PATH LENGTH MODE */
         line->kind = MAP;
         line->region = add_region(text, field(&at));
-        if (!is_word(field(&at), "memory"))
-            fail("a region isn't in memory");
+        struct span kind = field(&at);
+        if (!is_word(kind, "memory") && !is_word(kind, "file"))
+            fail("a region is neither in memory nor in a file");
+        line->path = is_word(kind, "file") ? field(&at) : (struct span){0};
         line->length = number(&at);
     } else {
         fail("a line is none of map, script, load and store");
