@@ -14,6 +14,7 @@ pub mod Saves
 pub mod Serving
 pub mod Lanes
 pub mod Owners
+pub mod Turns
 pub mod Flushes
 pub mod Quota
 pub mod Agreements

@@ -9,6 +9,7 @@ use Rattle.page_model.specs.declared.entry.Cause.TheVariants.{Pressure, Flush, U
 use Rattle.page_model.specs.declared.entry.HintAnswer.TheVariants as answer
 use Rattle.page_model.specs.declared.entry.Entry.{Entry}
 use Rattle.page_model.specs.declared.entry.Entry.TheVariants.{Load, Save, Raised, StartRead, Filled, Opened, Dropped, ReadFailed, WriteFailed, StartWrite, Evicted, Written, Hint, Closing, Unmapped}
+use Rattle.page_model.specs.Entries.{accesses_of}
 use Rattle.page_model.specs.Setups.{Setup}
 
 -- memory that begins with zeros
@@ -108,6 +109,13 @@ after_one_read = history_of (a_failed_read 1)
 
 abbrev pub after_two_reads : History Entry
 after_two_reads = history_of reads_fail_twice
+
+abbrev pub two_pages : History Entry
+two_pages = history_of two_pages_in_one_frame
+
+-- the accesses among them alone
+abbrev pub by_one_owner : History Entry
+by_one_owner = by 0 (accesses_of 1 two_pages)
 
 -- till the greatest number, which may come again
 abbrev pub reads_fail_at_the_greatest_number : List Entry

@@ -22,3 +22,4 @@ pub mod Readers
 pub mod Examples
 pub mod Laws
 pub mod Pieces
+pub mod Owned

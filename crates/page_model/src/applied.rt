@@ -1,20 +1,23 @@
 //! Laws applied to the worked histories: what they ask can be met, and what they say of it.
-ghost use Rattle.std.specs.Prelude.{◌≡◌, ◌≤◌, ◌++◌, [], true, List, length, reverse};
+ghost use Rattle.std.specs.Prelude.{◌≡◌, ◌≤◌, ◌++◌, ◌∷◌, [], true, List, length, reverse};
 ghost use Rattle.std.specs.List.{list_any};
 ghost use Rattle.histories.specs.Histories.{History, by, Alone, Grew, HasNew, IsNew};
 ghost use Rattle.page_model.specs.declared.entry.Entry.{Entry as Seen};
 ghost use Rattle.page_model.specs.declared.entry.Entry.TheVariants.{ReadFailed};
 ghost use Rattle.page_model.specs.Closings.{is_unmapped};
 ghost use Rattle.page_model.specs.Entries.{accesses_of};
+ghost use Rattle.page_base.specs.declared.keys.Key.{Key};
 ghost use Rattle.page_model.specs.Faults.{pending};
+ghost use Rattle.page_model.specs.Memory.{flat};
+ghost use Rattle.page_model.specs.Owned.{InTurn};
 ghost use Rattle.page_model.specs.Laws.{HasMoreToClear, IsCounted, IsEmptied, raises_for_store};
-ghost use Rattle.page_model.specs.Examples.{stripe_with, history_of, page, a_failed_read, reads_fail_twice, write_fails_twice, two_pages_in_one_frame, three_hints, closing_with_a_fault, after_one_read, after_two_reads};
+ghost use Rattle.page_model.specs.Examples.{stripe_with, history_of, page, a_failed_read, reads_fail_twice, write_fails_twice, two_pages_in_one_frame, three_hints, closing_with_a_fault, after_one_read, after_two_reads, two_pages, by_one_owner};
 
 use crate::entry::Entry;
 use crate::examples::{hints_are_answered, the_store_fails, two_pages_take_turns};
 use crate::laws::{
     accesses_of_both, closing_goes_ahead, closings_stay, dirty_is_raised, faults_are_counted,
-    few_are_pending, read_fault_is_new, unmapped_is_emptied,
+    few_are_pending, own_bytes, owners_in_turn, read_fault_is_new, unmapped_is_emptied,
 };
 use histories::laws::{alone_is_own, growing_adds_up, grown_knows, new_stays, one_later};
 
@@ -97,4 +100,14 @@ pub fn failed_reads_are_no_accesses()
     ensures { (later : History Seen) → accesses_of 1 (later ++ history_of reads_fail_twice) ≡ accesses_of 1 later }
 {
     accesses_of_both();
+}
+
+/// Where one owner alone made all accesses, these give what each page holds and what each load gave.
+pub fn the_two_pages_have_one_owner()
+    ensures bytes { (k : Key) → flat (stripe_with 1) two_pages k ≡ flat (stripe_with 1) by_one_owner k }
+    ensures turn { InTurn (stripe_with 1) (λ k. 1) two_pages (1 ∷ []) }
+{
+    two_pages_take_turns();
+    own_bytes();
+    owners_in_turn();
 }

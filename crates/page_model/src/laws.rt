@@ -5,6 +5,7 @@ ghost use Rattle.page_model.specs.Laws.{AbsentIsKept, LaneStaysOut, IdleLaneIsHo
 ghost use Rattle.page_model.specs.Laws.{PagesAreOfStripe, AccessesOfBoth, CleanIsKept, DirtyIsRaised, ClosingsStay, UnmappedIsEmptied, ClosingGoesAhead};
 ghost use Rattle.page_model.specs.Laws.{FaultsAreCounted, ReadFaultIsNew, WaitingIsAbsent, FewArePending, PendingHasLastWhy, ChosenKnows, RaisedIsLast};
 ghost use Rattle.page_model.specs.Pieces.{AccessesByPiece};
+ghost use Rattle.page_model.specs.Owned.{OwnBytes, OwnersInTurn};
 
 use crate::entry::Entry;
 use histories::laws::{calls_of_both, first_is_prefix};
@@ -166,4 +167,14 @@ pub fn chosen_knows()
 /// A hint raises where none of the other answers applies.
 pub fn raised_is_last()
     ensures { RaisedIsLast }
+{}
+
+/// What a page holds is what its one owner made of it.
+pub fn own_bytes()
+    ensures { OwnBytes }
+{}
+
+/// Where each page has one owner, owners may as well have made their accesses one behind the other.
+pub fn owners_in_turn()
+    ensures { OwnersInTurn }
 {}
