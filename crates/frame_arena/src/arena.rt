@@ -99,9 +99,9 @@ impl FrameArena {
     {
         let count = frames as usize;
         let size = page_size as usize;
-        let mut block = vec![in alloc; 0u8; count * size].map_err(|_| OutOfMemory)?;
-        let mut hints = Vec::with_capacity(alloc, count).map_err(|_| OutOfMemory)?;
-        let mut slots = Vec::with_capacity(alloc, count).map_err(|_| OutOfMemory)?;
+        let mut block = vec![in alloc; 0u8; count * size]?;
+        let mut hints = Vec::with_capacity(alloc, count)?;
+        let mut slots = Vec::with_capacity(alloc, count)?;
         let mut at = block.as_mut_ptr();
         let (mut rest, whole) = Shell::open(block);
         let mut book = Book::new(count);

@@ -40,7 +40,7 @@ impl Leaf {
         requires { pages ≤ 512 }
         ensures { IfOk result (λ l. l ≡ replicate pages Absent) }
     {
-        let words = vec![in alloc; Word::of(PageEntry::Absent); pages].map_err(|_| OutOfMemory)?;
+        let words = vec![in alloc; Word::of(PageEntry::Absent); pages]?;
         Ok(Leaf { words, dirty: 0 })
     }
 

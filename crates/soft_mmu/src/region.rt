@@ -42,7 +42,7 @@ impl RegionPages {
     {
         let full = pages as usize / Leaf::PAGES;
         let rest = pages as usize % Leaf::PAGES;
-        let mut leaves = Vec::with_capacity(alloc, full + 1).map_err(|_| OutOfMemory)?;
+        let mut leaves = Vec::with_capacity(alloc, full + 1)?;
         for _ in 0..full {
             let leaf = Leaf::absent(alloc, Leaf::PAGES)?;
             leaves.push_reserved(leaf);

@@ -43,7 +43,7 @@ impl PageTable {
         if shapes.len() > REGION_NUMBERS {
             return Err(OutOfMemory);
         }
-        let mut regions = Vec::with_capacity(alloc, shapes.len()).map_err(|_| OutOfMemory)?;
+        let mut regions = Vec::with_capacity(alloc, shapes.len())?;
         for shape in shapes.as_slice() {
             let region = RegionPages::absent(alloc, shape.pages)?;
             regions.push(region).map_err(|_| OutOfMemory)?;

@@ -48,8 +48,7 @@ fn share_of(
     let mut page = u64::from(first);
     while page < u64::from(pages) {
         let start = page as usize * size;
-        own.extend_from_slice(&contents[start..start + size])
-            .map_err(|_| OutOfMemory)?;
+        own.extend_from_slice(&contents[start..start + size])?;
         page += u64::from(stripes);
     }
     Ok(Bytes::from_vec(own))

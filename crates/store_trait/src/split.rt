@@ -47,9 +47,7 @@ fn joined(alloc: Global, lanes: &List<MemLane>) -> Result<Bytes, OutOfMemory>
     for page in 0..pages {
         let stripe = (u64::from(region) + u64::from(page)) % stripes;
         let lane = lanes.get(stripe as usize);
-        bytes
-            .extend_from_slice(lane.page(page))
-            .map_err(|_| OutOfMemory)?;
+        bytes.extend_from_slice(lane.page(page))?;
     }
     Ok(Bytes::from_vec(bytes))
 }
