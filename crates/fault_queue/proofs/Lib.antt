@@ -1,7 +1,11 @@
+mod Among
 mod Chains
 mod Counts
 mod First
+mod Grouped
+mod Groups
 mod Keys
 mod Moves
 mod Once
+mod Stamps
 mod Walks

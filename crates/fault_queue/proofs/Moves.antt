@@ -155,37 +155,37 @@ module _ (slots : List Raise) (order chains : ListsSeen) (number : ℕ) (s : IsS
   module _ (sound : lists.IsSound order) where
     -- a free slot gets a raise
     module _ (slot : ℕ) (raise : Raise) (there : 1 ≤ count slot unused) (within : slot < many) where
-      fresh : count slot in_queue ≡ 0
-      fresh = let one = in_one order many s.dealt sound slot in omega (arith, one, there)
+      pub fresh_slot : count slot in_queue ≡ 0
+      fresh_slot = let one = in_one order many s.dealt sound slot in omega (arith, one, there)
 
       pub no_chain : stands chains slot ≡ false
-      no_chain = subst (λ (o : ListsSeen). stands o slot ≡ false) (sym s.chained) (in_no_chain slots in_queue slot fresh)
+      no_chain = subst (λ (o : ListsSeen). stands o slot ≡ false) (sym s.chained) (in_no_chain slots in_queue slot fresh_slot)
 
       pub raised_seen : raises_in (slice_set slots slot raise) (list_at (pushed (removed order slot) 0 slot) 0) ≡ raises_in slots in_queue ++ raise ∷ []
       raised_seen =
-          ap (λ (o : ListsSeen). raises_in (slice_set slots slot raise) (list_at o 0)) (to_queue order many s.dealt sound slot there) ∙ raises_with slots in_queue slot raise within fresh
+          ap (λ (o : ListsSeen). raises_in (slice_set slots slot raise) (list_at o 0)) (to_queue order many s.dealt sound slot there) ∙ raises_with slots in_queue slot raise within fresh_slot
 
       pub sound_raised : find (is_of raise.key) (raises_in slots in_queue) ≡ None
           → IsSound (slice_set slots slot raise) (pushed (removed order slot) 0 slot) (pushed chains (bucket_of many raise.key) slot) (number + 1)
       sound_raised none = rw (to_queue order many s.dealt sound slot there) (record {
-        some = rw (as_many slots in_queue slot raise within fresh) s.some;
-        few = rw (as_many slots in_queue slot raise within fresh) s.few;
+        some = rw (as_many slots in_queue slot raise within fresh_slot) s.some;
+        few = rw (as_many slots in_queue slot raise within fresh_slot) s.few;
         dealt = record {
-          two = rw (as_many slots in_queue slot raise within fresh) refl;
+          two = rw (as_many slots in_queue slot raise within fresh_slot) refl;
           all =
               let whole = s.dealt.all in
               let more = length-append in_queue (slot ∷ []) in
               let less = length_without slot unused in
               let one = in_one order many s.dealt sound slot in
-              let same = as_many slots in_queue slot raise within fresh in
+              let same = as_many slots in_queue slot raise within fresh_slot in
               omega (arith, whole, more, less, one, there, same);
         };
         counted = let is = s.counted in let more = length-append in_queue (slot ∷ []) in omega (arith, is, more);
-        once = rw (raises_with slots in_queue slot raise within fresh) (once_raised (raises_in slots in_queue) raise s.once none);
+        once = rw (raises_with slots in_queue slot raise within fresh_slot) (once_raised (raises_in slots in_queue) raise s.once none);
         chained =
             ap (λ (o : ListsSeen). pushed o (bucket_of many raise.key) slot) s.chained
-            ∙ (ap (λ (xs : List (List ℕ)). record { numbers = many; lists = xs }) (chains_with slots in_queue slot raise within fresh (bucket_below raise.key))
-            ∙ ap (λ (n : ℕ). record { numbers = n; lists = chains_of (slice_set slots slot raise) (in_queue ++ slot ∷ []) }) (sym (as_many slots in_queue slot raise within fresh)));
+            ∙ (ap (λ (xs : List (List ℕ)). record { numbers = many; lists = xs }) (chains_with slots in_queue slot raise within fresh_slot (bucket_below raise.key))
+            ∙ ap (λ (n : ℕ). record { numbers = n; lists = chains_of (slice_set slots slot raise) (in_queue ++ slot ∷ []) }) (sym (as_many slots in_queue slot raise within fresh_slot)));
       })
 
     -- a raise leaves its slot

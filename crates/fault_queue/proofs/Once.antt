@@ -6,8 +6,7 @@ use Rattle.std.proofs.lemmas.List.Sums.{sum_by-append}
 use Rattle.page_base.specs.declared.keys.Key.{Key}
 use Rattle.page_base.specs.declared.keys.Raise.{Raise}
 use Rattle.page_base.specs.Pages.{same}
-use Rattle.fault_queue.specs.Queues.{is_of, pending_why, without}
-use Rattle.fault_queue.specs.InsideQueues.{AreOnce}
+use Rattle.fault_queue.specs.Queues.{is_of, pending_why, without, AreOnce}
 use Rattle.fault_queue.proofs.Keys.{same-true}
 use Rattle.fault_queue.proofs.Counts.{count_by-none, count_by-filter}
 

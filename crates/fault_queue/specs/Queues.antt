@@ -1,9 +1,11 @@
 -- The raises that wait in a fault queue.
-use Rattle.std.specs.Prelude.{ℕ, ◌≡◌, Bool, true, false, not, List, [], ◌∷◌, ◌++◌, take, filter, find, Option, Some, All, Contains, slice_get}
+use Rattle.std.specs.Prelude.{ℕ, ◌≡◌, ◌≤◌, ◌%◌, Bool, true, false, not, count_by, List, [], ◌∷◌, ◌++◌, take, filter, find, Option, Some, All, Contains, slice_get}
 use Rattle.std.specs.Option.{option_map}
 use Rattle.page_base.specs.declared.keys.Key.{Key}
 use Rattle.page_base.specs.declared.keys.Raise.{Raise}
 use Rattle.page_base.specs.declared.keys.Why.{Why}
+use Rattle.page_base.specs.declared.keys.Why.TheVariants.{Protected}
+use Rattle.page_base.specs.declared.limits.TheConstants.{MOST_REGIONS}
 use Rattle.page_base.specs.Pages.{same}
 
 -- the raises in order, and the most that there may be
@@ -48,3 +50,37 @@ Computes answers passes raises = (raise : Raise) (answer : Bool) → Contains ra
 -- whatever the test computes on the raises, this is the first of them that passes it
 abbrev pub FindsComputed : (Raise → Bool → Type 0) → List Raise → Option Raise → Type 0
 FindsComputed answers raises found = (passes : Raise → Bool) → Computes answers passes raises → found ≡ find passes raises
+
+-- a page is raised at most once
+abbrev pub AreOnce : List Raise → Type 0
+AreOnce raises = (key : Key) → count_by (is_of key) raises ≤ 1
+
+-- ---- groups of raises: by the region's number, and by whether they are for a protected page
+
+abbrev pub group_region : Raise → ℕ
+group_region raise = raise.key.region % MOST_REGIONS
+
+abbrev pub opens_why : Why → Bool
+opens_why Protected = true
+opens_why why = false
+
+-- the raise is for a protected page
+abbrev pub opens : Raise → Bool
+opens raise = opens_why raise.why
+
+-- what a test of groups asks of a raise
+abbrev pub asks_group : (ℕ → Bool → Type 0) → Raise → Type 0
+asks_group asks raise = asks (group_region raise) (opens raise)
+
+-- what a test of groups answers of a raise
+abbrev pub of_group : (ℕ → Bool → Bool → Type 0) → Raise → Bool → Type 0
+of_group answers raise answer = answers (group_region raise) (opens raise) answer
+
+-- a raise whose group passes
+abbrev pub passes_by : (ℕ → Bool → Bool) → Raise → Bool
+passes_by passes raise = passes (group_region raise) (opens raise)
+
+-- whatever the test computes on the groups of the raises, this is the first of them whose group passes it
+abbrev pub FindsAmong : (ℕ → Bool → Bool → Type 0) → List Raise → Option Raise → Type 0
+FindsAmong answers raises found =
+    (passes : ℕ → Bool → Bool) → Computes (of_group answers) (passes_by passes) raises → found ≡ find (passes_by passes) raises

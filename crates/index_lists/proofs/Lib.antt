@@ -1,5 +1,10 @@
 pub mod Counts
+pub mod Dealt
+pub mod Ordered
 pub mod Links
+pub mod Parts
 pub mod Paths
+pub mod Rising
 pub mod Seen
+pub mod Spots
 pub mod Tied

@@ -5,7 +5,7 @@ use Rattle.std.specs.List.{slice_get}
 use native.Mathlib.Numerals.{unary_clauses}
 use Rattle.std.proofs.lemmas.Bool.{eqb-true, eq-eqb, le-leb, lt-leb}
 use Rattle.index_lists.specs.declared.node.Node.{Node}
-use Rattle.index_lists.specs.Lists.{has, put_behind, without}
+use Rattle.index_lists.specs.Lists.{before_place, has, put_behind, without}
 use Rattle.index_lists.specs.InsideNodes.{next_at, previous_at, joined, IsEdge, IsStep, IsPath, number_of}
 use Rattle.index_lists.proofs.Counts.{one, count, count-cons, without-none}
 use Rattle.index_lists.proofs.Links.{length-joined, edge_made, edge_kept}
@@ -233,3 +233,18 @@ last_read nodes numbers a b (x ∷ xs) end path = simp unary_clauses (behind x x
     behind : (y : ℕ) (ys : List ℕ) → IsPath nodes numbers y ys b → y < numbers → number_of numbers (previous_at nodes b) ≡ slice_get (y ∷ ys) (length ys)
     behind y [] path below = ap (number_of numbers) path.previous ∙ number_below numbers y below
     behind y (z ∷ zs) path below = behind z zs path.1 path.0.within
+
+-- what stands before a place, where a stands before the first
+pub previous_read : (nodes : List Node) (numbers n a b place : ℕ) (xs : List ℕ) → numbers ≤ a → IsPath nodes numbers a xs b → slice_get xs place ≡ Some n → number_of numbers (previous_at nodes n) ≡ before_place xs place
+previous_read nodes numbers n a b place [] end path here = absurd cc
+previous_read nodes numbers n a b zero (x ∷ xs) end path here =
+    let is : x ≡ n = cc in
+    subst (λ c. number_of numbers (previous_at nodes c) ≡ None) is (ap (number_of numbers) path.0.edge.previous ∙ number_past numbers a end)
+previous_read nodes numbers n a b (suc place) (x ∷ xs) end path here = behind place x xs path.1 path.0.within here
+  where
+    behind : (at y : ℕ) (ys : List ℕ) → IsPath nodes numbers y ys b → y < numbers → slice_get ys at ≡ Some n → number_of numbers (previous_at nodes n) ≡ slice_get (y ∷ ys) at
+    behind at y [] path below here = absurd cc
+    behind zero y (z ∷ zs) path below here =
+        let is : z ≡ n = cc in
+        subst (λ c. number_of numbers (previous_at nodes c) ≡ Some y) is (ap (number_of numbers) path.0.edge.previous ∙ number_below numbers y below)
+    behind (suc at) y (z ∷ zs) path below here = behind at z zs path.1 path.0.within here

@@ -8,11 +8,11 @@ use Rattle.std.proofs.lemmas.List.Folds.{Any-from_list_any, sum_by-replicate}
 use Rattle.std.proofs.lemmas.List.Sums.{sum_by-set}
 use Rattle.std.proofs.lemmas.List.Elements.{All-from_get_or, All-cons}
 use Rattle.index_lists.specs.declared.node.Node.{Node}
-use Rattle.index_lists.specs.Lists.{put_behind, has, without, times, IsSound}
+use Rattle.index_lists.specs.Lists.{before_place, put_behind, has, without, times, IsSound}
 use Rattle.index_lists.specs.InsideNodes.{blank, next_at, previous_at, joined, lists_in, number_of, IsPath, IsTied}
 use Rattle.index_lists.proofs.Counts.{one, count, count-cons, count-push, count-le-times, times-none, times-without-le, times-put_behind_same, times-put_behind_other}
 use Rattle.index_lists.proofs.Links.{length-joined}
-use Rattle.index_lists.proofs.Paths.{IsBetween, IsGap, put_between, between, path_without, path_past, path_pushed, path_off, path_behind, path_inserted, first_edge, last_edge, first_read, last_read, next_read}
+use Rattle.index_lists.proofs.Paths.{IsBetween, IsGap, put_between, between, path_without, path_past, path_pushed, path_off, path_behind, path_inserted, first_edge, last_edge, first_read, last_read, next_read, previous_read}
 use Rattle.index_lists.proofs.Seen.{end_apart, lists_seen, path_below, AreBelow}
 
 -- what is tied is what is seen
@@ -202,6 +202,13 @@ next_of nodes numbers n list place lists t here = by_place (cases_lt list (lengt
   where
     by_place : (list < length lists) ⊎ (length lists ≤ list) → number_of numbers (next_at nodes n) ≡ slice_get (slice_index_or lists list []) (place + 1)
     by_place (inl within) = next_read nodes numbers n (numbers + list) (numbers + list) place (slice_index_or lists list []) (omega arith) (t.rings list within) here
+    by_place (inr past) = let none : slice_index_or lists list [] ≡ [] = get_or_past lists list [] past in let no : slice_get {X = ℕ} [] place ≡ Some n = rw none at here in absurd (cc no)
+
+pub previous_of : (nodes : List Node) (numbers n list place : ℕ) (lists : List (List ℕ)) → IsTied nodes numbers lists → slice_get (slice_index_or lists list []) place ≡ Some n → number_of numbers (previous_at nodes n) ≡ before_place (slice_index_or lists list []) place
+previous_of nodes numbers n list place lists t here = by_place (cases_lt list (length lists))
+  where
+    by_place : (list < length lists) ⊎ (length lists ≤ list) → number_of numbers (previous_at nodes n) ≡ before_place (slice_index_or lists list []) place
+    by_place (inl within) = previous_read nodes numbers n (numbers + list) (numbers + list) place (slice_index_or lists list []) (omega arith) (t.rings list within) here
     by_place (inr past) = let none : slice_index_or lists list [] ≡ [] = get_or_past lists list [] past in let no : slice_get {X = ℕ} [] place ≡ Some n = rw none at here in absurd (cc no)
 
 -- ---- what callers may know

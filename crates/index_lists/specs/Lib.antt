@@ -1,2 +1,4 @@
 pub mod Lists
 pub mod InsideNodes
+pub mod Orders
+pub mod InsideOrders

@@ -1,5 +1,5 @@
 -- Lists of numbers below a bound.
-use Rattle.std.specs.Prelude.{if◌then◌else◌, ℕ, ◌<◌, ◌≤◌, ◌==◌, Bool, not, List, [], ◌∷◌, ◌++◌, replicate, filter, map, sum_by, count_by, slice_index_or, slice_set, All}
+use Rattle.std.specs.Prelude.{if◌then◌else◌, ℕ, zero, suc, Option, None, slice_get, ◌<◌, ◌≤◌, ◌==◌, Bool, not, List, [], ◌∷◌, ◌++◌, replicate, filter, map, sum_by, count_by, slice_index_or, slice_set, All}
 use Rattle.std.specs.List.{list_any}
 
 pub record ListsSeen : Type 0 where
@@ -12,6 +12,11 @@ all_empty lists numbers = record { numbers = numbers; lists = replicate lists []
 
 abbrev pub list_at : ListsSeen → ℕ → List ℕ
 list_at seen list = slice_index_or seen.lists list []
+
+-- what stands before a place of a list, none before the first
+abbrev pub before_place : List ℕ → ℕ → Option ℕ
+before_place list zero = None
+before_place list (suc place) = slice_get list place
 
 -- the number is in the list
 abbrev pub has : ℕ → List ℕ → Bool

@@ -4,7 +4,7 @@
 //! begins and ends there, linked both ways. So neither a push nor a removal has a case for an empty list, a first or a last one,
 //! and a number is taken out without being told of which list.
 ghost use Rattle.std.specs.Prelude.{◌≡◌, ℕ, ◌+◌, ◌-◌, ◌<◌, length, Some, false, IsTrue, IfOk, IfSome, slice_get};
-ghost use Rattle.index_lists.specs.Lists.{all_empty, list_at, stands, pushed, pushed_front, inserted, removed, IsSound};
+ghost use Rattle.index_lists.specs.Lists.{all_empty, list_at, before_place, stands, pushed, pushed_front, inserted, removed, IsSound};
 ghost use Rattle.index_lists.specs.InsideNodes.{joined, number_of};
 
 use crate::node::Node;
@@ -85,6 +85,16 @@ impl IndexLists {
         ensures within { IfSome result (λ next. next < self.now.numbers) }
     {
         self.number(self.nodes[number as usize].next)
+    }
+
+    /// The number that stands before this one in its list, none before the first.
+    pub fn previous(&self, number: u32) -> Option<u32>
+        requires within { number < self.now.numbers }
+        ensures exact { (list place : ℕ) → slice_get (list_at self.now list) place ≡ Some number
+            → result ≡ before_place (list_at self.now list) place }
+        ensures within { IfSome result (λ previous. previous < self.now.numbers) }
+    {
+        self.number(self.nodes[number as usize].previous)
     }
 
     /// Puts a number that stands in no list at the end of one.

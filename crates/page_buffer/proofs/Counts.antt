@@ -89,3 +89,11 @@ list_any-some p (x ∷ xs) some = by_test (p x) refl (list_any-some p xs)
     by_test : (b : Bool) → p x ≡ b → (1 ≤ count_by p xs → list_any p xs ≡ true) → (b || list_any p xs) ≡ true
     by_test true e rest = refl
     by_test false e rest = let cons = count_by-cons p x xs in let counts : one (p x) ≡ 0 = ap one e in rest (omega arith)
+
+pub count_by-without_le : {X : Type 0} (p q : X → Bool) (xs : List X) → count_by q (filter (λ x. not (p x)) xs) ≤ count_by q xs
+count_by-without_le p q [] = omega arith
+count_by-without_le p q (x ∷ xs) = by_test (p x) (count_by-without_le p q xs)
+  where
+    by_test : (b : Bool) → count_by q (filter (λ y. not (p y)) xs) ≤ count_by q xs → count_by q (cond (not b) (x ∷ filter (λ y. not (p y)) xs) (filter (λ y. not (p y)) xs)) ≤ count_by q (x ∷ xs)
+    by_test true rest = let cons = count_by-cons q x xs in omega arith
+    by_test false rest = let cons = count_by-cons q x xs in let kept = count_by-cons q x (filter (λ y. not (p y)) xs) in omega arith

@@ -5,4 +5,4 @@ pub mod Residents
 pub mod Rooms
 pub mod New
 pub mod Walks
-pub mod First
+pub mod Oldest

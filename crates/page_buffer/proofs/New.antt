@@ -5,7 +5,7 @@ use Rattle.std.proofs.lemmas.List.{get_or_append_left, get_or_push, get_or-repli
 use Rattle.std.proofs.lemmas.List.Folds.{sum_by-replicate}
 use Rattle.std.proofs.lemmas.Bool.{cases_lt}
 use Rattle.frame_arena.specs.Frames.{ArenaSeen}
-use Rattle.index_lists.specs.Lists.{all_empty}
+use Rattle.index_lists.specs.Orders.{no_members}
 use Rattle.page_buffer.specs.declared.frame.Frame.{Frame}
 use Rattle.page_buffer.specs.Frames.{FrameSeen, Free, is_free, is_resident, is_for}
 use Rattle.page_buffer.specs.Insides.{frame_seen, frames_seen, HasAll, IsOrdered, IsListed, IsSound}
@@ -49,13 +49,13 @@ listed_new free n a = record {
   apart = λ i j d lt within e. let first = a.named i d (omega (arith, a.many)) in let second = a.named j d (omega (arith, a.many)) in omega (arith, e);
 }
 
-pub sound_new : (arena : ArenaSeen) (frames : List Frame) (free : List ℕ) (quota : ℕ) → quota < 4294967296 → HasAll arena frames → frames_seen frames ≡ replicate quota Free → AreFirst free quota → IsSound arena frames (all_empty 1 quota) free 0
-sound_new arena frames free quota small all seen list =
+pub sound_new : (arena : ArenaSeen) (frames : List Frame) (free : List ℕ) (quota regions : ℕ) → quota < 4294967296 → HasAll arena frames → frames_seen frames ≡ replicate quota Free → AreFirst free quota → IsSound arena frames (no_members regions quota) free 0
+sound_new arena frames free quota regions small all seen list =
     let many : length frames ≡ quota = sym (length-map frames frame_seen) ∙ ap length seen ∙ length-replicate quota Free in
     record {
       few = omega arith;
       rooms = all;
-      linked = record { numbers = sym many; one = refl };
+      linked = record { numbers = sym many ∙ sym (length-map frames frame_seen); region = λ f there. absurd (omega arith) };
       pages = rw seen (ordered_new quota);
       counted = refl;
       list = rw seen (listed_new free quota list);

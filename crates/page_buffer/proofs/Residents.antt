@@ -8,7 +8,7 @@ use Rattle.page_base.specs.declared.keys.Key.{Key}
 use Rattle.page_base.specs.Pages.{same}
 use Rattle.index_lists.specs.Lists as lists
 use Rattle.page_buffer.specs.Frames.{FrameSeen, Free, Reserved, Resident, page_of, refilled, is_resident, is_for}
-use Rattle.page_buffer.specs.Buffers.{BufferSeen, without}
+use Rattle.page_buffer.specs.Buffers.{without}
 use Rattle.page_buffer.specs.Insides.{key_in, residents_seen, IsOrdered}
 use Rattle.page_buffer.proofs.Keys.{same_self}
 use Rattle.page_buffer.proofs.Counts.{one, count_by-cons, count_by-two, count_by-without}
@@ -97,6 +97,25 @@ residents_released frames order f key bytes s at =
         neither false false e is = refl
         neither true false e is = absurd (two (is_for_page (slice_index_or frames n Free) key (resident_there frames order n s there).0 e))
 
+-- of two frames in the order, the pages are the same where the frames are
+pub same_page : (frames : List FrameSeen) (order : List ℕ) (n f : ℕ) → IsOrdered frames order → 1 ≤ placed_in n order → 1 ≤ placed_in f order → same (key_in frames n) (key_in frames f) ≡ (n == f)
+same_page frames order n f s n_there f_there = by_number (cases_eq n f)
+  where
+    two : n ≢ f → same (key_in frames n) (key_in frames f) ≡ true → ⊥
+    two differs passes =
+        let n_at = resident_there frames order n s n_there in
+        let f_at = resident_there frames order f s f_there in
+        apart_in frames (key_in frames f) n f n_at.1 f_at.1 differs (is_for_page (slice_index_or frames n Free) (key_in frames f) n_at.0 passes) (is_for_page (slice_index_or frames f Free) (key_in frames f) f_at.0 (same_self (key_in frames f))) (s.once (key_in frames f))
+
+    neither : (a b : Bool) → n ≢ f → same (key_in frames n) (key_in frames f) ≡ a → (n == f) ≡ b → a ≡ b
+    neither a true differs e is = absurd (differs (eqb-true n f is))
+    neither false false differs e is = refl
+    neither true false differs e is = absurd (two differs e)
+
+    by_number : (n ≡ f) ⊎ (n ≢ f) → same (key_in frames n) (key_in frames f) ≡ (n == f)
+    by_number (inl e) = ap (λ m. same (key_in frames m) (key_in frames f)) e ∙ (same_self (key_in frames f) ∙ sym (eq-eqb n f e))
+    by_number (inr differs) = neither (same (key_in frames n) (key_in frames f)) (n == f) differs refl refl
+
 -- a reserved frame is filled
 pub residents_filled : (frames : List FrameSeen) (order : List ℕ) (f : ℕ) (key : Key) (bytes : List ℕ) → Holds frames f (Reserved key)
     → residents_seen (slice_set frames f (Resident key bytes)) (order ++ f ∷ []) ≡ residents_seen frames order ++ key ∷ []
@@ -107,10 +126,3 @@ residents_filled frames order f key bytes at =
 -- the bytes of a page, written over as a whole
 pub refilled-whole : (old new : List ℕ) → length new ≡ length old → refilled old new ≡ new
 refilled-whole old new whole = ap (λ (n : ℕ). take n (new ++ drop (length new) old)) (sym whole) ∙ take-append_seam new (drop (length new) old)
-
--- two buffers with the same parts
-abbrev pub buffer_seen : ℕ → List FrameSeen → List Key → BufferSeen
-buffer_seen page_size frames residents = record { page_size = page_size; frames = frames; residents = residents }
-
-pub same_seen : (page_size : ℕ) (frames others : List FrameSeen) (order pages : List Key) → frames ≡ others → order ≡ pages → buffer_seen page_size frames order ≡ buffer_seen page_size others pages
-same_seen page_size frames others order pages f o = λ i. record { page_size = page_size; frames = f i; residents = o i }

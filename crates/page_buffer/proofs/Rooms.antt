@@ -1,21 +1,22 @@
 -- The same of the frames as they lie in memory: what a frame's room holds, and a buffer whose one room changes.
 use Rattle.std.proofs.Common.{◌≡◌, ℕ, ◌+◌, ◌-◌, ◌<◌, ◌≤◌, Bool, true, false, List, [], ◌∷◌, ◌++◌, ◌==◌, length, ◌⊎◌, inl, inr, refl, sym, ap, ◌∙◌, arith, length-set, get_or-set_same, get_or-set_other, length-append}
-use Rattle.std.specs.Prelude.{count_by, slice_index_or, slice_set, map}
+use Rattle.std.specs.Prelude.{count_by, slice_index_or, slice_set}
 use Rattle.std.specs.List.{list_any}
 use Rattle.std.proofs.lemmas.List.{map-set, length-map, get_or-map, get_or_past}
 use Rattle.std.proofs.lemmas.List.Elements.{All-get_or, All-from_get_or}
-use Rattle.std.proofs.lemmas.Bool.{cases_eq, cases_lt}
+use Rattle.std.proofs.lemmas.Bool.{cases_eq, cases_lt, eqb-true, false_from_ne_true}
 use Rattle.page_base.specs.declared.keys.Key.{Key}
 use Rattle.frame_arena.specs.Frames.{ArenaSeen}
 use Rattle.frame_arena.specs.Frames as arena_frame
-use Rattle.index_lists.specs.Lists.{ListsSeen, list_at, stands, has, without, pushed, removed}
-use Rattle.page_buffer.specs.Frames.{FrameSeen, with_bytes, refilled, Free, Reserved, Resident, is_free, is_reserved, is_resident, is_for}
+use Rattle.index_lists.specs.Lists.{without}
+use Rattle.index_lists.specs.Orders.{OrderSeen, group_of, is_member, appended, left_out}
+use Rattle.page_buffer.specs.Frames.{FrameSeen, with_bytes, page_of, refilled, Free, Reserved, Resident, is_free, is_reserved, is_resident, is_for}
 use Rattle.page_buffer.specs.declared.frame.Use.{Use}
 use Rattle.page_buffer.specs.declared.frame.Use.TheVariants as in_use
 use Rattle.page_buffer.specs.declared.frame.Frame.{Frame}
-use Rattle.page_buffer.specs.Insides.{seen_as, frame_seen, frames_seen, HasAll, IsOrdered, IsLinked, IsListed, IsSound}
-use Rattle.page_buffer.proofs.Counts.{one, count_by-cons, count_by-misses, length-without, list_any-none, list_any-some}
-use Rattle.page_buffer.proofs.Sound.{Holds, placed_in, placed_once, last_held, listed_popped, listed_pushed, listed_kept, ordered_reserved, ordered_unreserved, ordered_filled, ordered_written, ordered_released}
+use Rattle.page_buffer.specs.Insides.{seen_as, key_in, frame_seen, frames_seen, HasAll, IsOrdered, IsLinked, IsListed, IsSound}
+use Rattle.page_buffer.proofs.Counts.{one, count_by-cons, count_by-push, count_by-without, count_by-without_le, count_by-misses, length-without, list_any-none, list_any-some}
+use Rattle.page_buffer.proofs.Sound.{Holds, placed_in, placed_once, not_placed, last_held, listed_popped, listed_pushed, listed_kept, ordered_reserved, ordered_unreserved, ordered_filled, ordered_written, ordered_released}
 
 -- the room of frame f
 pub record IsRoom (frames : List Frame) (f : ℕ) (room : Frame) : Type 0 where
@@ -46,43 +47,84 @@ room_of test frames f room fails passes is = by_place (cases_lt f (length frames
 pub room_mine : (arena : ArenaSeen) (frames : List Frame) (f : ℕ) (room : Frame) → HasAll arena frames → IsRoom frames f room → room.page.arena ≡ arena.arena
 room_mine arena frames f room all r = ap (λ (x : Frame). x.page.arena) r.is ∙ All-get_or (λ (x : Frame). x.page.arena ≡ arena.arena) frames f room r.within all.mine
 
--- ---- the order, as the one list over the numbers of the frames
+-- ---- the order
 
-one_list : (lists : ListsSeen) (frames : ℕ) (list : List ℕ) → IsLinked lists frames → slice_set lists.lists 0 list ≡ list ∷ []
-one_list lists frames list l = ap (λ (ls : List (List ℕ)). slice_set ls 0 list) l.one
+pub member_not : (o : OrderSeen) (f : ℕ) → placed_in f o.order ≡ 0 → is_member o f ≡ false
+member_not o f none = list_any-none (λ other. other == f) o.order none
 
-pub linked_pushed : (lists : ListsSeen) (frames f : ℕ) → IsLinked lists frames → IsLinked (pushed lists 0 f) frames × (list_at (pushed lists 0 f) 0 ≡ list_at lists 0 ++ f ∷ [])
-linked_pushed lists frames f l =
-    let e = one_list lists frames (list_at lists 0 ++ f ∷ []) l in
-    let at : list_at (pushed lists 0 f) 0 ≡ list_at lists 0 ++ f ∷ [] = ap (λ (ls : List (List ℕ)). slice_index_or ls 0 []) e in
-    (record { numbers = l.numbers; one = e ∙ ap (λ (xs : List ℕ). xs ∷ []) (sym at) }, at)
+pub member_so : (o : OrderSeen) (f : ℕ) → placed_in f o.order ≡ 1 → is_member o f ≡ true
+member_so o f there = list_any-some (λ other. other == f) o.order (omega arith)
 
-pub linked_removed : (lists : ListsSeen) (frames f : ℕ) → IsLinked lists frames → IsLinked (removed lists f) frames × (list_at (removed lists f) 0 ≡ without f (list_at lists 0))
-linked_removed lists frames f l =
-    let e : map (without f) lists.lists ≡ without f (list_at lists 0) ∷ [] = ap (map (without f)) l.one in
-    let at : list_at (removed lists f) 0 ≡ without f (list_at lists 0) = ap (λ (ls : List (List ℕ)). slice_index_or ls 0 []) e in
-    (record { numbers = l.numbers; one = e ∙ ap (λ (xs : List ℕ). xs ∷ []) (sym at) }, at)
+-- the page of a frame that stays for its page, or isn't in the order
+page_kept : (frames : List FrameSeen) (f : ℕ) (x y : FrameSeen) (n : ℕ) → Holds frames f x → page_of y ≡ page_of x → key_in (slice_set frames f y) n ≡ key_in frames n
+page_kept frames f x y n at same_page = by_number (cases_eq n f)
+  where
+    by_number : (n ≡ f) ⊎ (n ≡ f → ⊥) → key_in (slice_set frames f y) n ≡ key_in frames n
+    by_number (inl e) = ap (key_in (slice_set frames f y)) e ∙ (ap page_of (get_or-set_same frames f y Free at.within) ∙ (same_page ∙ (sym (ap page_of at.is) ∙ ap (key_in frames) (sym e))))
+    by_number (inr differs) = ap page_of (get_or-set_other frames f n y Free differs)
 
-pub stands_not : (lists : ListsSeen) (frames f : ℕ) → IsLinked lists frames → placed_in f (list_at lists 0) ≡ 0 → stands lists f ≡ false
-stands_not lists frames f l none = ap (list_any (has f)) l.one ∙ ap (λ (b : Bool). list_any (λ (t : Bool). t) (b ∷ [])) (list_any-none (λ other. other == f) (list_at lists 0) none)
+linked_same : (frames : List FrameSeen) (o : OrderSeen) (f : ℕ) (x y : FrameSeen) → IsLinked frames o → Holds frames f x → page_of y ≡ page_of x → IsLinked (slice_set frames f y) o
+linked_same frames o f x y l at same_page = record {
+  numbers = l.numbers ∙ sym (length-set frames f y);
+  region = λ n there. l.region n there ∙ ap (λ (k : Key). k.region) (sym (page_kept frames f x y n at same_page));
+}
 
-pub stands_so : (lists : ListsSeen) (frames f : ℕ) → IsLinked lists frames → placed_in f (list_at lists 0) ≡ 1 → stands lists f ≡ true
-stands_so lists frames f l there = ap (list_any (has f)) l.one ∙ ap (λ (b : Bool). list_any (λ (t : Bool). t) (b ∷ [])) (list_any-some (λ other. other == f) (list_at lists 0) (omega arith))
+linked_apart : (frames : List FrameSeen) (o : OrderSeen) (f : ℕ) (y : FrameSeen) → IsLinked frames o → placed_in f o.order ≡ 0 → IsLinked (slice_set frames f y) o
+linked_apart frames o f y l none = record {
+  numbers = l.numbers ∙ sym (length-set frames f y);
+  region =
+      λ n there.
+      l.region n there ∙ ap (λ (x : FrameSeen). (page_of x).region) (sym (get_or-set_other frames f n y Free (λ e. (let was : placed_in n o.order ≡ placed_in f o.order = ap (λ m. placed_in m o.order) e in absurd (omega arith)))));
+}
+
+linked_filled : (frames : List FrameSeen) (o : OrderSeen) (f : ℕ) (key : Key) (bytes : List ℕ) (clean : Bool) → IsLinked frames o → Holds frames f (Reserved key) → length o.group ≡ o.numbers
+    → IsLinked (slice_set frames f (Resident key bytes)) (appended o key.region f clean)
+linked_filled frames o f key bytes clean l at sized = record {
+  numbers = l.numbers ∙ sym (length-set frames f (Resident key bytes));
+  region = λ n there. by_number n there (cases_eq n f);
+}
+  where
+    by_number : (n : ℕ) → 1 ≤ placed_in n (o.order ++ f ∷ []) → (n ≡ f) ⊎ (n ≡ f → ⊥) → group_of (appended o key.region f clean) n ≡ (key_in (slice_set frames f (Resident key bytes)) n).region
+    by_number n there (inl e) =
+        let within : f < length o.group = (let a = at.within in let m = l.numbers in omega arith) in
+        ap (group_of (appended o key.region f clean)) e
+        ∙ (get_or-set_same o.group f key.region 0 within
+        ∙ sym (ap (λ m. (key_in (slice_set frames f (Resident key bytes)) m).region) e ∙ ap (λ (x : FrameSeen). (page_of x).region) (get_or-set_same frames f (Resident key bytes) Free at.within)))
+    by_number n there (inr differs) =
+        let push = count_by-push (λ other. other == n) o.order f in
+        let other : one (f == n) ≡ 0 = ap one (false_from_ne_true (f == n) (λ e. differs (sym (eqb-true f n e)))) in
+        get_or-set_other o.group f n key.region 0 differs
+        ∙ (l.region n (omega arith) ∙ ap (λ (x : FrameSeen). (page_of x).region) (sym (get_or-set_other frames f n (Resident key bytes) Free differs)))
+
+linked_released : (frames : List FrameSeen) (o : OrderSeen) (f : ℕ) → IsLinked frames o → IsLinked (slice_set frames f Free) (left_out o f)
+linked_released frames o f l = record {
+  numbers = l.numbers ∙ sym (length-set frames f Free);
+  region = λ n there. by_number n there (cases_eq n f);
+}
+  where
+    by_number : (n : ℕ) → 1 ≤ placed_in n (without f o.order) → (n ≡ f) ⊎ (n ≡ f → ⊥) → group_of o n ≡ (key_in (slice_set frames f Free) n).region
+    by_number n there (inl e) =
+        let none = count_by-without (λ other. other == f) o.order in
+        let same : placed_in n (without f o.order) ≡ placed_in f (without f o.order) = ap (λ m. placed_in m (without f o.order)) e in
+        absurd (omega arith)
+    by_number n there (inr differs) =
+        let less = count_by-without_le (λ other. other == f) (λ other. other == n) o.order in
+        l.region n (omega arith) ∙ ap (λ (x : FrameSeen). (page_of x).region) (sym (get_or-set_other frames f n Free Free differs))
 
 -- ---- one room changes
 
-pub sound_set : (arena : ArenaSeen) (frames : List Frame) (lists after : ListsSeen) (free left : List ℕ) (resident then f : ℕ) (room new : Frame)
-    → IsSound arena frames lists free resident → IsRoom frames f room → new.page.arena ≡ room.page.arena → IsLinked after (length frames)
-    → IsOrdered (slice_set (frames_seen frames) f (frame_seen new)) (list_at after 0) → then ≡ length (list_at after 0) → IsListed (slice_set (frames_seen frames) f (frame_seen new)) left
+pub sound_set : (arena : ArenaSeen) (frames : List Frame) (o after : OrderSeen) (free left : List ℕ) (resident then f : ℕ) (room new : Frame)
+    → IsSound arena frames o free resident → IsRoom frames f room → new.page.arena ≡ room.page.arena → IsLinked (slice_set (frames_seen frames) f (frame_seen new)) after
+    → IsOrdered (slice_set (frames_seen frames) f (frame_seen new)) after.order → then ≡ length after.order → IsListed (slice_set (frames_seen frames) f (frame_seen new)) left
     → IsSound arena (slice_set frames f new) after left then
-sound_set arena frames lists after free left resident then f room new s r same linked pages counted listed = record {
+sound_set arena frames o after free left resident then f room new s r same linked pages counted listed = record {
   few = rw (length-set frames f new) s.few;
   rooms = record {
     out = s.rooms.out;
     many = length-set frames f new ∙ s.rooms.many;
     mine = All-from_get_or (λ (x : Frame). x.page.arena ≡ arena.arena) (slice_set frames f new) room (λ i lt. mine i (rw (length-set frames f new) at lt) (cases_eq i f));
   };
-  linked = rw (length-set frames f new) linked;
+  linked = rw (map-set frame_seen frames f new) linked;
   pages = rw (map-set frame_seen frames f new) pages;
   counted = counted;
   list = rw (map-set frame_seen frames f new) listed;
@@ -135,52 +177,52 @@ resident_room frames f room passes is =
 
 -- ---- the changes
 
-pub sound_reserved : (arena : ArenaSeen) (frames : List Frame) (lists : ListsSeen) (free : List ℕ) (resident f : ℕ) (room : Frame) (key : Key)
-    → IsSound arena frames lists (free ++ f ∷ []) resident → IsRoom frames f room → list_any (is_for key) (frames_seen frames) ≡ false
-    → IsSound arena (slice_set frames f (record room { used = in_use.Reserved key })) lists free resident
-sound_reserved arena frames lists free resident f room key s r fresh =
-    sound_set arena frames lists lists _ free resident resident f room _ s r refl s.linked
-    (ordered_reserved (frames_seen frames) (list_at lists 0) f key s.pages (last_held (frames_seen frames) free f s.list) fresh) s.counted
+pub sound_reserved : (arena : ArenaSeen) (frames : List Frame) (o : OrderSeen) (free : List ℕ) (resident f : ℕ) (room : Frame) (key : Key)
+    → IsSound arena frames o (free ++ f ∷ []) resident → IsRoom frames f room → list_any (is_for key) (frames_seen frames) ≡ false
+    → IsSound arena (slice_set frames f (record room { used = in_use.Reserved key })) o free resident
+sound_reserved arena frames o free resident f room key s r fresh =
+    let held = last_held (frames_seen frames) free f s.list in
+    sound_set arena frames o o _ free resident resident f room _ s r refl (linked_apart (frames_seen frames) o f _ s.linked (not_placed (frames_seen frames) o.order f Free s.pages held refl))
+    (ordered_reserved (frames_seen frames) o.order f key s.pages (last_held (frames_seen frames) free f s.list) fresh) s.counted
     (listed_popped (frames_seen frames) free f (Reserved key) s.list refl)
 
-pub sound_unreserved : (arena : ArenaSeen) (frames : List Frame) (lists : ListsSeen) (free : List ℕ) (resident f : ℕ) (room : Frame)
-    → IsSound arena frames lists free resident → IsReservedRoom frames f room
-    → IsSound arena (slice_set frames f (record room { used = in_use.Free })) lists (free ++ f ∷ []) resident
-sound_unreserved arena frames lists free resident f room s r =
-    sound_set arena frames lists lists free _ resident resident f room _ s r.place refl s.linked
-    (ordered_unreserved (frames_seen frames) (list_at lists 0) f r.key s.pages r.holds) s.counted
+pub sound_unreserved : (arena : ArenaSeen) (frames : List Frame) (o : OrderSeen) (free : List ℕ) (resident f : ℕ) (room : Frame)
+    → IsSound arena frames o free resident → IsReservedRoom frames f room
+    → IsSound arena (slice_set frames f (record room { used = in_use.Free })) o (free ++ f ∷ []) resident
+sound_unreserved arena frames o free resident f room s r =
+    sound_set arena frames o o free _ resident resident f room _ s r.place refl (linked_apart (frames_seen frames) o f _ s.linked (not_placed (frames_seen frames) o.order f _ s.pages r.holds refl))
+    (ordered_unreserved (frames_seen frames) o.order f r.key s.pages r.holds) s.counted
     (listed_pushed (frames_seen frames) free f (Reserved r.key) s.list r.holds refl)
 
-pub sound_filled : (arena : ArenaSeen) (frames : List Frame) (lists : ListsSeen) (free : List ℕ) (resident f : ℕ) (room new : Frame)
-    → IsSound arena frames lists free resident → (r : IsReservedRoom frames f room) → new.used ≡ in_use.Resident r.key → new.page.arena ≡ room.page.arena
-    → IsSound arena (slice_set frames f new) (pushed lists 0 f) free (resident + 1)
-sound_filled arena frames lists free resident f room new s r used same =
+pub sound_filled : (arena : ArenaSeen) (frames : List Frame) (o : OrderSeen) (free : List ℕ) (resident f : ℕ) (room new : Frame) (clean : Bool)
+    → IsSound arena frames o free resident → length o.group ≡ o.numbers → (r : IsReservedRoom frames f room) → new.used ≡ in_use.Resident r.key → new.page.arena ≡ room.page.arena
+    → IsSound arena (slice_set frames f new) (appended o r.key.region f clean) free (resident + 1)
+sound_filled arena frames o free resident f room new clean s sized r used same =
     let seen : frame_seen new ≡ Resident r.key new.page.bytes = ap (λ (u : Use). seen_as u new.page.bytes) used in
-    let order = linked_pushed lists (length frames) f s.linked in
-    sound_set arena frames lists (pushed lists 0 f) free free resident (resident + 1) f room new s r.place same order.0
-    (rw (seen, order.1) (ordered_filled (frames_seen frames) (list_at lists 0) f r.key new.page.bytes s.pages r.holds))
-    (rw (order.1, length-append (list_at lists 0) (f ∷ [])) (let was = s.counted in omega arith))
+    sound_set arena frames o (appended o r.key.region f clean) free free resident (resident + 1) f room new s r.place same
+    (rw seen (linked_filled (frames_seen frames) o f r.key new.page.bytes clean s.linked r.holds sized))
+    (rw seen (ordered_filled (frames_seen frames) o.order f r.key new.page.bytes s.pages r.holds))
+    (rw (length-append o.order (f ∷ [])) (let was = s.counted in omega arith))
     (rw seen (listed_kept (frames_seen frames) free f (Reserved r.key) (Resident r.key new.page.bytes) s.list r.holds refl refl))
 
-pub sound_written : (arena : ArenaSeen) (frames : List Frame) (lists : ListsSeen) (free : List ℕ) (resident f : ℕ) (room new : Frame)
-    → IsSound arena frames lists free resident → (r : IsResidentRoom frames f room) → new.used ≡ in_use.Resident r.key → new.page.arena ≡ room.page.arena
-    → IsSound arena (slice_set frames f new) lists free resident
-sound_written arena frames lists free resident f room new s r used same =
+pub sound_written : (arena : ArenaSeen) (frames : List Frame) (o : OrderSeen) (free : List ℕ) (resident f : ℕ) (room new : Frame)
+    → IsSound arena frames o free resident → (r : IsResidentRoom frames f room) → new.used ≡ in_use.Resident r.key → new.page.arena ≡ room.page.arena
+    → IsSound arena (slice_set frames f new) o free resident
+sound_written arena frames o free resident f room new s r used same =
     let seen : frame_seen new ≡ Resident r.key new.page.bytes = ap (λ (u : Use). seen_as u new.page.bytes) used in
-    sound_set arena frames lists lists free free resident resident f room new s r.place same s.linked
-    (rw seen (ordered_written (frames_seen frames) (list_at lists 0) f r.key room.page.bytes new.page.bytes s.pages r.holds)) s.counted
+    sound_set arena frames o o free free resident resident f room new s r.place same (rw seen (linked_same (frames_seen frames) o f _ (Resident r.key new.page.bytes) s.linked r.holds refl))
+    (rw seen (ordered_written (frames_seen frames) o.order f r.key room.page.bytes new.page.bytes s.pages r.holds)) s.counted
     (rw seen (listed_kept (frames_seen frames) free f (Resident r.key room.page.bytes) (Resident r.key new.page.bytes) s.list r.holds refl refl))
 
-pub sound_released : (arena : ArenaSeen) (frames : List Frame) (lists : ListsSeen) (free : List ℕ) (resident f : ℕ) (room : Frame)
-    → IsSound arena frames lists free resident → IsResidentRoom frames f room
-    → IsSound arena (slice_set frames f (record room { used = in_use.Free })) (removed lists f) (free ++ f ∷ []) (resident - 1)
-sound_released arena frames lists free resident f room s r =
-    let order = linked_removed lists (length frames) f s.linked in
-    let there = placed_once (frames_seen frames) (list_at lists 0) f (Resident r.key room.page.bytes) s.pages r.holds refl in
-    let fewer = length-without (λ other. other == f) (list_at lists 0) in
-    sound_set arena frames lists (removed lists f) free _ resident (resident - 1) f room _ s r.place refl order.0
-    (rw order.1 (ordered_released (frames_seen frames) (list_at lists 0) f r.key room.page.bytes s.pages r.holds))
-    (rw order.1 (let was = s.counted in omega arith))
+pub sound_released : (arena : ArenaSeen) (frames : List Frame) (o : OrderSeen) (free : List ℕ) (resident f : ℕ) (room : Frame)
+    → IsSound arena frames o free resident → IsResidentRoom frames f room
+    → IsSound arena (slice_set frames f (record room { used = in_use.Free })) (left_out o f) (free ++ f ∷ []) (resident - 1)
+sound_released arena frames o free resident f room s r =
+    let there = placed_once (frames_seen frames) o.order f (Resident r.key room.page.bytes) s.pages r.holds refl in
+    let fewer = length-without (λ other. other == f) o.order in
+    sound_set arena frames o (left_out o f) free _ resident (resident - 1) f room _ s r.place refl (linked_released (frames_seen frames) o f s.linked)
+    (ordered_released (frames_seen frames) o.order f r.key room.page.bytes s.pages r.holds)
+    (let was = s.counted in omega arith)
     (listed_pushed (frames_seen frames) free f (Resident r.key room.page.bytes) s.list r.holds refl)
 
 -- free, reserved and resident frames are all frames

@@ -1,15 +1,12 @@
 -- A walk along the order, from the oldest page on.
-use Rattle.std.proofs.Common.{◌≡◌, ◌∙◌, ◌⊎◌, inl, inr, ℕ, ◌+◌, ◌<◌, ◌≤◌, Bool, true, false, ◌==◌, List, length, Some, None, All, Contains, take, sym, ap, arith}
+use Rattle.std.proofs.Common.{◌≡◌, ◌∙◌, ◌⊎◌, inl, inr, ℕ, ◌<◌, ◌≤◌, true, ◌==◌, List, length, Some, None, sym, ap, arith}
 use Rattle.std.specs.Prelude.{slice_index_or}
 use Rattle.std.specs.List.{slice_get}
 use Rattle.std.specs.Option.{option_map}
 use Rattle.std.proofs.lemmas.Bool.{eq-eqb, cases_lt}
-use Rattle.std.proofs.lemmas.List.{length-map, take_all}
-use Rattle.std.proofs.lemmas.List.Elements.{All-more}
 use Rattle.std.proofs.lemmas.Option.{slice_get_within, slice_get_past, get_or_from_slice_get, slice_get-map, slice_get-get_or}
 use Rattle.page_base.specs.declared.keys.Key.{Key}
 use Rattle.page_buffer.specs.Frames.{FrameSeen, Free, is_resident}
-use Rattle.page_buffer.specs.Buffers.{IsFirst}
 use Rattle.page_buffer.specs.Insides.{key_in, residents_seen, IsOrdered}
 use Rattle.page_buffer.proofs.Counts.{count_by-has}
 use Rattle.page_buffer.proofs.Sound.{placed_in}
@@ -41,23 +38,6 @@ none_behind order place later behind here = by_place (cases_lt place (length ord
     by_place (inl within) = let some = slice_get-get_or order place 0 within in absurd (cc (some, here))
     by_place (inr past) = slice_get_past order later (omega arith)
 
-pub contained : (keys : List Key) (place : ℕ) (key : Key) → slice_get keys place ≡ Some key → Contains keys key
-contained keys place key here = (place, slice_get_within keys place key here, get_or_from_slice_get keys place key key here)
-
 -- the page that was read there
 pub key_at : (frames : List FrameSeen) (order : List ℕ) (place frame : ℕ) (key : Key) → IsOrdered frames order → slice_get order place ≡ Some frame → key ≡ key_in frames frame → slice_get (residents_seen frames order) place ≡ Some key
 key_at frames order place frame key s here page = (at_place frames order place frame s here).page ∙ ap (λ (k : Key). Some k) (sym page)
-
--- a page that fails the test, behind others that do
-pub fails_more : (answers : Key → Bool → Type 0) (keys : List Key) (place : ℕ) (key : Key) → All (λ (k : Key). answers k false) (take place keys) → slice_get keys place ≡ Some key → answers key false → All (λ (k : Key). answers k false) (take (place + 1) keys)
-fails_more answers keys place key before here fails =
-    let is : slice_index_or keys place key ≡ key = get_or_from_slice_get keys place key key here in
-    All-more (λ (k : Key). answers k false) keys place key (slice_get_within keys place key here) before (rw is fails)
-
--- the first that passes
-pub first_here : (answers : Key → Bool → Type 0) (keys : List Key) (place : ℕ) (key : Key) → All (λ (k : Key). answers k false) (take place keys) → slice_get keys place ≡ Some key → answers key true → IsFirst answers keys key
-first_here answers keys place key before here passes = record { place = place; is = here; passes = passes; before = before }
-
--- all of them fail
-pub all_fail : (answers : Key → Bool → Type 0) (frames : List FrameSeen) (order : List ℕ) (place : ℕ) → length order ≤ place → All (λ (k : Key). answers k false) (take place (residents_seen frames order)) → All (λ (k : Key). answers k false) (residents_seen frames order)
-all_fail answers frames order place end before = let many = length-map order (key_in frames) in rw (take_all place (residents_seen frames order) (omega arith)) at before

@@ -1,9 +1,9 @@
 -- How the fields of a buffer are seen, and what holds of them between calls. No contract cites this.
-use Rattle.std.specs.Prelude.{ℕ, ◌≡◌, ◌≢◌, ◌==◌, ◌<◌, ◌≤◌, cond, List, [], ◌∷◌, length, map, count_by, slice_index_or, All}
+use Rattle.std.specs.Prelude.{ℕ, ◌≡◌, ◌≢◌, ◌==◌, ◌<◌, ◌≤◌, cond, List, length, map, count_by, slice_index_or, All}
 use Rattle.std.specs.List.{AllPairs}
 use Rattle.page_base.specs.declared.keys.Key.{Key}
 use Rattle.frame_arena.specs.Frames.{ArenaSeen, home}
-use Rattle.index_lists.specs.Lists.{ListsSeen, list_at}
+use Rattle.index_lists.specs.Orders.{OrderSeen, group_of}
 use Rattle.page_buffer.specs.declared.frame.Use.{Use}
 use Rattle.page_buffer.specs.declared.frame.Use.TheVariants as in_use
 use Rattle.page_buffer.specs.declared.frame.Frame.{Frame}
@@ -40,10 +40,10 @@ pub record IsOrdered (frames : List FrameSeen) (order : List ℕ) : Type 0 where
   pub placed : (frame : ℕ) → count_by (λ other. other == frame) order ≡ cond (is_resident (slice_index_or frames frame Free)) 1 0
   pub residents : length order ≡ count_by is_resident frames
 
--- the order is the one list over the numbers of the frames
-pub record IsLinked (lists : ListsSeen) (frames : ℕ) : Type 0 where
-  pub numbers : lists.numbers ≡ frames
-  pub one : lists.lists ≡ list_at lists 0 ∷ []
+-- the order is over the numbers of the frames, and a frame's group is the region of its page
+pub record IsLinked (frames : List FrameSeen) (o : OrderSeen) : Type 0 where
+  pub numbers : o.numbers ≡ length frames
+  pub region : (frame : ℕ) → 1 ≤ count_by (λ other. other == frame) o.order → group_of o frame ≡ (key_in frames frame).region
 
 -- the free list has each free frame once
 pub record IsListed (frames : List FrameSeen) (free : List ℕ) : Type 0 where
@@ -52,10 +52,10 @@ pub record IsListed (frames : List FrameSeen) (free : List ℕ) : Type 0 where
   pub are_free : (i d : ℕ) → i < length free → slice_index_or frames (slice_index_or free i d) Free ≡ Free
   pub apart : AllPairs (λ (f g : ℕ). f ≢ g) free
 
-pub record IsSound (arena : ArenaSeen) (frames : List Frame) (lists : ListsSeen) (free : List ℕ) (resident : ℕ) : Type 0 where
+pub record IsSound (arena : ArenaSeen) (frames : List Frame) (o : OrderSeen) (free : List ℕ) (resident : ℕ) : Type 0 where
   pub few : length frames < 4294967296
   pub rooms : HasAll arena frames
-  pub linked : IsLinked lists (length frames)
-  pub pages : IsOrdered (frames_seen frames) (list_at lists 0)
-  pub counted : resident ≡ length (list_at lists 0)
+  pub linked : IsLinked (frames_seen frames) o
+  pub pages : IsOrdered (frames_seen frames) o.order
+  pub counted : resident ≡ length o.order
   pub list : IsListed (frames_seen frames) free

@@ -1,20 +1,22 @@
 //! The frames of a stripe, the order of its resident pages, and the frames that are free.
 //!
 //! What must stay true when this file is changed: all frames of the arena are here, a page has one frame at the most, `order` has
-//! the number of each frame with a resident page once, `free` that of each free frame, and `resident` says how many pages are in
-//! the order. The room of `free` is for as many as there are frames, so it doesn't grow. No call goes through the order but
-//! `oldest_where`, over the pages that fail its test, and `nth`, over those before its place.
-ghost use Rattle.std.specs.Prelude.{◌≡◌, ◌<◌, ◌≤◌, ◌+◌, ◌*◌, length, count_by, false, IsTrue, IfSome, IfNone, IfOk, All, Contains, slice_get};
+//! the number of each frame with a resident page once, in the group of the page's region and marked where the page is clean,
+//! `free` has that of each free frame, and `resident` says how many pages are in the order. The room of `free` is for as many as
+//! there are frames, so it doesn't grow. No call goes through the order but `nth`, over the pages before its place;
+//! `mark_clean` goes from the page outwards through its region's pages, up to the nearest clean one.
+ghost use Rattle.std.specs.Prelude.{◌≡◌, ◌<◌, ◌≤◌, ◌+◌, ◌*◌, length, count_by, find, true, false, IsTrue, IfSome, IfOk, Some, None, slice_get};
 ghost use Rattle.std.specs.Borrow.{Lends, sem, Array, u8 as byte};
 ghost use Rattle.page_base.specs.declared.keys.Key.{Key};
-ghost use Rattle.page_base.specs.declared.limits.TheConstants.{MOST_BUFFER_BYTES};
+ghost use Rattle.page_base.specs.declared.limits.TheConstants.{MOST_BUFFER_BYTES, MOST_REGIONS};
 ghost use Rattle.page_buffer.specs.Frames.{Free, Reserved, is_reserved, is_resident, resident_key, page_of, bytes_of};
-ghost use Rattle.page_buffer.specs.Buffers.{all_free, frame_of, has_frame_for, free_frames, reserved_frames, with_frame, filled, released, with_page, evicts_further, IsFirst, FindsComputed};
+ghost use Rattle.page_buffer.specs.Buffers.{all_free, frame_of, has_frame_for, free_frames, reserved_frames, key_of_frame, with_frame, filled, released, marked, with_page, is_of_region, is_clean_but, evicts_further, IsFillOrder};
+ghost use Rattle.index_lists.specs.Orders.{FirstOfBoth};
 ghost use Rattle.page_buffer.specs.contracts.buffer.PageBuffer.{the_row};
 
 use crate::frame::{Frame, Use};
 use frame_arena::FrameArena;
-use index_lists::IndexLists;
+use index_lists::GroupedOrder;
 use page_base::{Key, Marks, OutOfMemory};
 use std::alloc::Global;
 use std::marker::Model;
@@ -23,14 +25,13 @@ use std::marker::Model;
 pub struct PageBuffer {
     arena: FrameArena,
     frames: Vec<Frame>,
-    order: IndexLists,
+    order: GroupedOrder,
     free: Vec<u32>,
     resident: u32,
 }
 
 impl Model for PageBuffer {
     ghost use Rattle.std.specs.Prelude.{◌≤◌, length, vec_capacity};
-    ghost use Rattle.index_lists.specs.Lists.{list_at};
     ghost use Rattle.page_buffer.specs.Buffers.{BufferSeen};
     ghost use Rattle.page_buffer.specs.Insides.{frames_seen, residents_seen, IsSound};
 
@@ -38,8 +39,11 @@ impl Model for PageBuffer {
 
     ghost view = { λ b. record {
       page_size = b.arena.arena.page_size;
+      regions = b.order.groups;
       frames = frames_seen b.frames.items;
-      residents = residents_seen (frames_seen b.frames.items) (list_at b.order 0);
+      order = b.order.order;
+      residents = residents_seen (frames_seen b.frames.items) b.order.order;
+      clean = b.order.marks;
     } };
 
     ghost invariant = { λ b. IsSound b.arena b.frames.items b.order b.free.items b.resident
@@ -47,15 +51,22 @@ impl Model for PageBuffer {
 }
 
 impl PageBuffer {
-    /// A buffer of free frames. It takes all memory that the buffer ever takes, and keeps none where it is refused.
-    pub fn new(alloc: Global, quota: u32, page_size: u32) -> Result<PageBuffer, OutOfMemory>
+    /// A buffer of free frames, for pages of the regions below `regions`. It takes all memory that the buffer ever takes, and keeps
+    /// none where it is refused.
+    pub fn new(
+        alloc: Global,
+        quota: u32,
+        page_size: u32,
+        regions: u32,
+    ) -> Result<PageBuffer, OutOfMemory>
         requires some { 1 ≤ quota }
         requires page { 1 ≤ page_size }
         requires small { quota * page_size ≤ MOST_BUFFER_BYTES }
-        ensures free { IfOk result (λ b. b ≡ all_free quota page_size) }
+        requires few { regions ≤ MOST_REGIONS }
+        ensures free { IfOk result (λ b. b ≡ all_free quota page_size regions) }
     {
+        let order = GroupedOrder::new(alloc, regions, quota)?;
         let mut free = Vec::with_capacity(alloc, quota as usize).map_err(|_| OutOfMemory)?;
-        let order = IndexLists::new(alloc, 1, quota)?;
         let mut frames = Vec::with_capacity(alloc, quota as usize).map_err(|_| OutOfMemory)?;
         let mut arena = match FrameArena::new(alloc, quota, page_size) {
             Ok(arena) => arena,
@@ -112,11 +123,12 @@ impl PageBuffer {
         frame
     }
 
-    /// Makes the page of a reserved frame resident, with these bytes. It is the newest.
-    pub fn fill(&mut self, frame: u32, bytes: &[u8])
+    /// Makes the page of a reserved frame resident, with these bytes. It is the newest, and clean or dirty.
+    pub fn fill(&mut self, frame: u32, bytes: &[u8], clean: bool)
         requires reserved { IsTrue (is_reserved (frame_of self.old frame)) }
+        requires region { (key_of_frame self.old frame).region < self.old.regions }
         requires page { length bytes.now ≡ self.old.page_size }
-        ensures filled { self.new ≡ filled self.old frame bytes.now }
+        ensures filled { self.new ≡ filled self.old frame bytes.now clean }
     {
         let room = &mut self.frames[frame as usize];
         let Use::Reserved(key) = room.used else {
@@ -124,7 +136,8 @@ impl PageBuffer {
         };
         room.used = Use::Resident(key);
         room.page.bytes_mut().copy_from_slice(bytes);
-        self.order.push_back(0, frame);
+        self.order.whole();
+        self.order.push_back(key.region as u32, frame, clean);
         self.resident += 1;
     }
 
@@ -169,23 +182,71 @@ impl PageBuffer {
         self.frames[frame as usize].page.bytes_mut()
     }
 
-    /// The first resident page in order of filling that passes the test.
-    pub fn oldest_where<T: Fn(Key) -> bool>(&self, test: T) -> Option<Key>
-        requires callable { (key : Key) → Contains self.now.residents key → T.pre test key }
-        ensures first { IfSome result (IsFirst (T.post test) self.now.residents) }
-        ensures none { IfNone result (All (λ key. T.post test key false) self.now.residents) }
-        ensures computed { FindsComputed (T.post test) self.now.residents result }
+    /// Marks a resident page as clean.
+    pub fn mark_clean(&mut self, frame: u32)
+        requires resident { IsTrue (is_resident (frame_of self.old frame)) }
+        ensures marked { self.new ≡ marked self.old frame true }
     {
-        let mut at = self.order.first(0);
-        for _ in 0..self.resident {
-            let frame = at.unwrap();
-            let key = self.resident_in(frame);
-            if test(key) {
-                return Some(key);
-            }
-            at = self.order.next(frame);
+        self.order.mark(frame);
+    }
+
+    /// Marks a resident page as dirty.
+    pub fn mark_dirty(&mut self, frame: u32)
+        requires resident { IsTrue (is_resident (frame_of self.old frame)) }
+        ensures marked { self.new ≡ marked self.old frame false }
+    {
+        self.order.unmark(frame);
+    }
+
+    /// The frame of the oldest page of a region, none where no page of it is resident.
+    pub fn oldest_of(&self, region: u16) -> Option<u32>
+        ensures exact { result ≡ find (is_of_region self.now region) self.now.order }
+    {
+        self.order.first_of(region as u32)
+    }
+
+    /// The frame of the oldest clean page of a region but one page, none where there is none.
+    pub fn oldest_clean(&self, region: u16, but: Option<Key>) -> Option<u32>
+        ensures exact { result ≡ find (is_clean_but self.now region but) self.now.order }
+    {
+        let oldest = self.order.first_marked(region as u32);
+        let Some(page) = but else {
+            return oldest;
+        };
+        match oldest {
+            Some(frame) => self.oldest_past(region, frame, page),
+            None => None,
         }
-        None
+    }
+
+    /// The frame of the oldest clean page of a region but one page, from the oldest of all its clean pages.
+    fn oldest_past(&self, region: u16, oldest: u32, but: Key) -> Option<u32>
+        requires resident { IsTrue (is_resident (frame_of self.now oldest)) }
+        requires oldest { Some oldest ≡ find (is_clean_but self.now region None) self.now.order }
+        ensures exact { result ≡ find (is_clean_but self.now region (Some but)) self.now.order }
+    {
+        if self.resident_in(oldest) == but {
+            self.order.first_marked_but(region as u32, oldest)
+        } else {
+            Some(oldest)
+        }
+    }
+
+    /// Of two frames with resident pages, where there are two, that of the older page.
+    pub fn older(&self, one: Option<u32>, other: Option<u32>) -> Option<u32>
+        requires one { IfSome one (λ frame. frame < length self.now.frames) }
+        requires other { IfSome other (λ frame. frame < length self.now.frames) }
+        ensures first { FirstOfBoth self.now.order one other result }
+        ensures within { IfSome result (λ frame. frame < length self.now.frames) }
+    {
+        self.order.older(one, other)
+    }
+
+    /// The frames in the order have the resident pages, in the order of filling.
+    pub fn ordered(&self)
+        ensures ordered { IsFillOrder self.now }
+    {
+        self.order.whole();
     }
 
     /// The resident page of a frame, none where there is none.
@@ -203,7 +264,7 @@ impl PageBuffer {
     pub fn nth(&self, place: u32) -> Option<Key>
         ensures exact { result ≡ slice_get self.now.residents place }
     {
-        let mut at = self.order.first(0);
+        let mut at = self.order.first();
         for _ in 0..place {
             at = self.order.next(at?);
         }
@@ -256,7 +317,7 @@ mod tests {
     /// A frame is reserved and given back.
     #[test]
     fn reserved_and_given_back(rt: HostRuntime) -> Result<(), Fail> {
-        let mut buffer = PageBuffer::new(rt.alloc(), 2, 2)?;
+        let mut buffer = PageBuffer::new(rt.alloc(), 2, 2, 10)?;
         let frame = buffer.reserve(PAGE);
         assert_eq!(rt; buffer.at(frame), None);
         assert_eq!(rt; buffer.free(), 1);
@@ -269,9 +330,9 @@ mod tests {
     /// A page is filled, written over, and leaves.
     #[test]
     fn filled_written_and_released(rt: HostRuntime) -> Result<(), Fail> {
-        let mut buffer = PageBuffer::new(rt.alloc(), 1, 2)?;
+        let mut buffer = PageBuffer::new(rt.alloc(), 1, 2, 1)?;
         let frame = buffer.reserve(PAGE);
-        buffer.fill(frame, &[5, 6]);
+        buffer.fill(frame, &[5, 6], true);
         assert_eq!(rt; buffer.at(frame), Some(PAGE));
         assert_eq!(rt; buffer.bytes(frame), [5, 6].as_slice());
         buffer.bytes_mut(frame).copy_from_slice(&[7, 8]);
@@ -282,21 +343,36 @@ mod tests {
         Ok(())
     }
 
-    /// The oldest is the page that was filled first.
+    /// The oldest of a region is its page that was filled first, and so is the oldest of its clean pages.
     #[test]
     fn oldest_first(rt: HostRuntime) -> Result<(), Fail> {
-        let mut buffer = PageBuffer::new(rt.alloc(), 2, 2)?;
-        let frame = buffer.reserve(Key { region: 9, page: 9 });
-        buffer.fill(frame, &[5, 6]);
-        let frame = buffer.reserve(PAGE);
-        buffer.fill(frame, &[7, 8]);
-        assert_eq!(rt;
-            buffer.oldest_where(|_| true),
-            Some(Key { region: 9, page: 9 })
-        );
-        assert_eq!(rt; buffer.oldest_where(|key| key.region == 0), Some(PAGE));
+        let mut buffer = PageBuffer::new(rt.alloc(), 2, 2, 10)?;
+        let old = buffer.reserve(Key { region: 9, page: 9 });
+        buffer.fill(old, &[5, 6], false);
+        let new = buffer.reserve(PAGE);
+        buffer.fill(new, &[7, 8], true);
+        assert_eq!(rt; buffer.oldest_of(9), Some(old));
+        assert_eq!(rt; buffer.oldest_of(0), Some(new));
+        assert_eq!(rt; buffer.oldest_of(1), None);
+        assert_eq!(rt; buffer.oldest_clean(9, None), None);
+        assert_eq!(rt; buffer.oldest_clean(0, None), Some(new));
+        assert_eq!(rt; buffer.oldest_clean(0, Some(PAGE)), None);
+        assert_eq!(rt; buffer.older(Some(new), Some(old)), Some(old));
         assert_eq!(rt; buffer.nth(1), Some(PAGE));
-        assert_eq!(rt; buffer.nth(2), None);
+        buffer.close();
+        Ok(())
+    }
+
+    /// A page is among the clean pages of its region while it is marked so.
+    #[test]
+    fn marked_clean_and_dirty(rt: HostRuntime) -> Result<(), Fail> {
+        let mut buffer = PageBuffer::new(rt.alloc(), 1, 1, 1)?;
+        let frame = buffer.reserve(PAGE);
+        buffer.fill(frame, &[5], false);
+        buffer.mark_clean(frame);
+        assert_eq!(rt; buffer.oldest_clean(0, None), Some(frame));
+        buffer.mark_dirty(frame);
+        assert_eq!(rt; buffer.oldest_clean(0, None), None);
         buffer.close();
         Ok(())
     }
@@ -304,7 +380,7 @@ mod tests {
     /// Between the marks a stripe goes on as before.
     #[test]
     fn evicts_from_one_mark_to_the_other(rt: HostRuntime) -> Result<(), Fail> {
-        let buffer = PageBuffer::new(rt.alloc(), 1, 1)?;
+        let buffer = PageBuffer::new(rt.alloc(), 1, 1, 1)?;
         assert_eq!(rt; buffer.evicting(false, Marks { on: 1, off: 0 }), false);
         assert_eq!(rt; buffer.evicting(true, Marks { on: 1, off: 0 }), false);
         assert_eq!(rt; buffer.evicting(false, Marks { on: 0, off: 0 }), true);

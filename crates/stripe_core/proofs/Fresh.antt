@@ -14,11 +14,11 @@ use Rattle.soft_mmu.specs.declared.entry.PageEntry.TheVariants.{Absent}
 use Rattle.soft_mmu.specs.Entries.{table_entry, HasPage, no_pages}
 use Rattle.soft_mmu.specs.Entries as table
 use Rattle.page_buffer.specs.Frames.{Free, resident_key, is_reserved}
-use Rattle.page_buffer.specs.Buffers.{BufferSeen}
+use Rattle.page_buffer.specs.Buffers.{BufferSeen, all_free}
 use Rattle.page_model.specs.Setups.{Setup, Fits, quota, has_page, is_page_of, base_of, told_in, pages_of}
 use Rattle.page_model.specs.Steps.{fresh_regions, fresh}
 use Rattle.page_model.specs.Tallies.{no_counts}
-use Rattle.fault_queue.specs.Queues.{QueueSeen}
+use Rattle.stripe_core.specs.InsideWaiting.{WaitingSeen, is_lost}
 use Rattle.page_base.specs.Pages.{on_mark, off_mark}
 use Rattle.page_base.specs.declared.keys.Marks.{Marks}
 use Rattle.page_base.specs.declared.keys.Raise.{Raise}
@@ -65,15 +65,17 @@ no_reads {S} (s ∷ lanes) (f ∷ faults) =
     let none : Option ReadOut = None in
     count_cons is_some none (reads_of (regions_made lanes faults)) ∙ (let rest = no_reads lanes faults in omega (arith, rest))
 
-pub fresh_tied : {S : Type 0} (shapes : List RegionShape) (page_size n : ℕ) (lanes : List S) (faults : List (Vec ℕ Global))
-    → Tied (no_pages shapes) (record { page_size = page_size; frames = replicate n Free; residents = [] }) (reads_of (regions_made lanes faults))
-fresh_tied shapes page_size n lanes faults = record {
+pub fresh_tied : {S : Type 0} (shapes : List RegionShape) (page_size n regions : ℕ) (lanes : List S) (faults : List (Vec ℕ Global))
+    → Tied (no_pages shapes) (all_free n page_size regions) (reads_of (regions_made lanes faults))
+fresh_tied shapes page_size n regions lanes faults = record {
   residents = λ k. sym (ap (λ e. is_some (frame_in e)) (none_present shapes k));
   entries = λ k f e. let none : frame_in (table_entry (no_pages shapes) k) ≡ None = ap frame_in (none_present shapes k) in absurd cc;
   frames = λ f k e. let none : resident_key (get_or (replicate n Free) f Free) ≡ None = ap resident_key (replicated n f Free) in absurd cc;
   kept = λ f k e. let none : reserved_key (get_or (replicate n Free) f Free) ≡ None = ap reserved_key (replicated n f Free) in absurd cc;
   reads = λ r o e. let none = none_out lanes faults r in absurd cc;
   counted = no_reserved n ∙ sym (no_reads lanes faults);
+  sizes = length-replicate n false ∙ sym (length-replicate n Free);
+  marks = λ k f e. let none : frame_in (table_entry (no_pages shapes) k) ≡ None = ap frame_in (none_present shapes k) in absurd cc;
 }
 
 -- ---- the regions
@@ -160,9 +162,9 @@ setup_fits {S} seen c lanes can frames size small whole = record {
 pub faults_length : {S : Type 0} (lanes : List S) (seen : S → LaneSeen) (shapes : List RegionShape) (faults : List (Vec ℕ Global)) → map (λ (v : Vec ℕ Global). v.items) faults ≡ map no_faults shapes → length (map seen lanes) ≡ length shapes → length faults ≡ length lanes
 faults_length lanes seen shapes faults e n = sym (length-map faults (λ (v : Vec ℕ Global). v.items)) ∙ (ap length e ∙ (length-map shapes no_faults ∙ (sym n ∙ length-map lanes seen)))
 
-pub fresh_sized : {S : Type 0} (seen : S → LaneSeen) (c : StripeConfig) (lanes : List S) (faults : List (Vec ℕ Global)) (q : QueueSeen) (marks : Marks) → CanMake c (map seen lanes) → map (λ (v : Vec ℕ Global). v.items) faults ≡ map no_faults c.shapes.items
+pub fresh_sized : {S : Type 0} (seen : S → LaneSeen) (c : StripeConfig) (lanes : List S) (faults : List (Vec ℕ Global)) (q : WaitingSeen) (marks : Marks) → CanMake c (map seen lanes) → map (λ (v : Vec ℕ Global). v.items) faults ≡ map no_faults c.shapes.items
     → q.raises ≡ [] → q.capacity ≡ c.faults → marks.on ≡ on_mark (quota (setup_of c (map seen lanes))) c.high → marks.off ≡ off_mark (quota (setup_of c (map seen lanes))) c.low
-    → IsSized c (map seen lanes) (no_pages c.shapes.items) (record { page_size = c.layout.page_size; frames = replicate (quota (setup_of c (map seen lanes))) Free; residents = [] }) q (regions_made lanes faults) marks
+    → IsSized c (map seen lanes) (no_pages c.shapes.items) (all_free (quota (setup_of c (map seen lanes))) c.layout.page_size (length c.shapes.items)) q (regions_made lanes faults) marks
 fresh_sized seen c lanes faults q marks can e none capacity on off = record {
   table = λ k h. fresh_has (setup_of c (map seen lanes)) k h;
   rows = length-map c.shapes.items (λ (s : RegionShape). replicate s.pages Absent);
@@ -173,7 +175,10 @@ fresh_sized seen c lanes faults q marks can e none capacity on off = record {
   faults = made_faults lanes faults c.shapes.items e;
   on = on;
   off = off;
+  groups = refl;
+  few = can.few_regions;
   queued = ap (list_all (λ (p : Raise). has_page (setup_of c (map seen lanes)) p.key)) none;
+  lost = let none_lost : count_by (is_lost (no_pages c.shapes.items)) q.raises ≡ 0 = ap (count_by (is_lost (no_pages c.shapes.items))) none in omega (arith, none_lost);
 }
 
 pub core_fresh : {S : Type 0} (seen : S → LaneSeen) (c : StripeConfig) (lanes : List S) (faults : List (Vec ℕ Global)) (b : BufferSeen) → b.residents ≡ [] → CanMake c (map seen lanes) → map (λ (v : Vec ℕ Global). v.items) faults ≡ map no_faults c.shapes.items

@@ -1,5 +1,8 @@
 pub mod Keys
 pub mod Looks
+pub mod Lost
+pub mod Serving
+pub mod Chosen
 pub mod Counted
 pub mod Ties
 pub mod Sizes
@@ -18,3 +21,4 @@ pub mod PresentIn
 pub mod Firsts
 pub mod Releases
 pub mod Finds
+pub mod Leaving

@@ -1,5 +1,5 @@
 -- That a read's start and its ends keep table, frames and reads tied.
-use Rattle.std.proofs.Common.{Bool, List, None, Option, Some, [], ap, arith, false, get_or-set_other, get_or-set_same, inl, inr, length, map, refl, set, subst, sym, true, ℕ, ◌++◌, ◌<◌, ◌∙◌, ◌∷◌, ◌≡◌, ◌||◌}
+use Rattle.std.proofs.Common.{Bool, List, None, Option, Some, [], ap, arith, false, get_or-set_other, get_or-set_same, inl, inr, length, length-set, map, not, refl, set, subst, sym, true, ℕ, ◌++◌, ◌<◌, ◌∙◌, ◌∷◌, ◌≡◌, ◌||◌}
 use Rattle.std.proofs.lemmas.Bool.{cases_Bool, cases_eq, cases_lt, or_parts}
 use Rattle.std.proofs.lemmas.List.{get_or_past, map-append}
 use Rattle.std.proofs.lemmas.List.Folds.{list_any-append}
@@ -12,12 +12,12 @@ use Rattle.soft_mmu.specs.declared.entry.PageEntry.TheVariants.{Absent, Present}
 use Rattle.soft_mmu.specs.Entries.{table_entry, with_entry, HasPage}
 use Rattle.page_buffer.specs.Frames.{FrameSeen, Free, Reserved, resident_key, is_reserved, is_resident, bytes_of, page_of}
 use Rattle.page_buffer.specs.Frames as frame
-use Rattle.page_buffer.specs.Buffers.{BufferSeen, frame_of, with_frame, filled, reserved_frames}
+use Rattle.page_buffer.specs.Buffers.{BufferSeen, frame_of, with_frame, filled, is_clean, reserved_frames}
 use Rattle.page_model.specs.Core.{Resident}
 use Rattle.page_model.specs.Residents.{is_in}
 use Rattle.stripe_core.specs.Parts.{Table, page_in, page_seen, pages_seen}
 use Rattle.stripe_core.specs.InsideParts.{ReadOut}
-use Rattle.stripe_core.specs.InsideTied.{Tied, frame_in, reserved_key, read_at}
+use Rattle.stripe_core.specs.InsideTied.{Tied, dirt, frame_in, reserved_key, read_at}
 use Rattle.stripe_core.proofs.Counted.{count_set, one_if}
 use Rattle.stripe_core.proofs.Keys.{same-true, same_self, entry_set, entry_kept, frame_set, frame_kept, reserved_within}
 use Rattle.stripe_core.proofs.Ties.{page_as}
@@ -87,6 +87,8 @@ start_tied t b outs k f tied within is_free region home =
           let none_out : one_if (is_some (read_at outs k.region)) ≡ 0 = ap (λ y. one_if (is_some y)) home in
           let was = tied.counted in
           omega (arith, frames, before, reads, none_out, was);
+      sizes = tied.sizes ∙ sym (length-set b.frames f x);
+      marks = tied.marks;
     }
 
 -- ---- a read ends: its frame is kept no more
@@ -140,18 +142,21 @@ fail_tied t b outs k f tied kept =
       kept = ended_kept t b outs k f Free tied kept refl;
       reads = ended_reads t b outs k f Free tied kept;
       counted = ended_counted t b outs k f Free tied kept refl;
+      sizes = tied.sizes ∙ sym (length-set b.frames f Free);
+      marks = tied.marks;
     }
 
 -- the buffer with page k resident in a frame, the newest
-abbrev pub filled_with : BufferSeen → ℕ → Key → List ℕ → BufferSeen
-filled_with b f k bytes = record b { frames = set b.frames f (frame.Resident k bytes); residents = b.residents ++ k ∷ [] }
+abbrev pub filled_with : BufferSeen → ℕ → Key → List ℕ → Bool → BufferSeen
+filled_with b f k bytes clean =
+    record b { frames = set b.frames f (frame.Resident k bytes); order = b.order ++ f ∷ []; residents = b.residents ++ k ∷ []; clean = set b.clean f clean }
 
-pub filled_is : (b : BufferSeen) (f : ℕ) (k : Key) (bytes : List ℕ) → frame_of b f ≡ Reserved k → filled b f bytes ≡ filled_with b f k bytes
-filled_is b f k bytes is = ap (λ x. filled_with b f (page_of x) bytes) is
+pub filled_is : (b : BufferSeen) (f : ℕ) (k : Key) (bytes : List ℕ) (clean : Bool) → frame_of b f ≡ Reserved k → filled b f bytes clean ≡ filled_with b f k bytes clean
+filled_is b f k bytes clean is = ap (λ x. filled_with b f (page_of x) bytes clean) is
 
 -- the page is read in
 pub fill_tied : (t : Table) (b : BufferSeen) (outs : List (Option ReadOut)) (k : Key) (f : ℕ) (p d : Bool) (bytes : List ℕ) → Tied t b outs → KeptFor b outs k f → HasPage t k → table_entry t k ≡ Absent
-    → Tied (with_entry t k (Present p d f)) (filled_with b f k bytes) (set outs k.region None)
+    → Tied (with_entry t k (Present p d f)) (filled_with b f k bytes (not d)) (set outs k.region None)
 fill_tied t b outs k f p d bytes tied kept has absent =
     let x : FrameSeen = frame.Resident k bytes in
     let e : PageEntry = Present p d f in
@@ -190,6 +195,21 @@ fill_tied t b outs k f p d bytes tied kept has absent =
       kept = ended_kept t b outs k f x tied kept refl;
       reads = ended_reads t b outs k f x tied kept;
       counted = ended_counted t b outs k f x tied kept refl;
+      sizes = length-set b.clean f (not d) ∙ (tied.sizes ∙ sym (length-set b.frames f x));
+      marks = λ j g i. elim (cases_Bool (same k j)) [
+        | inl s ↦
+            let kj : k ≡ j = same-true k j s in
+            let now : table_entry (with_entry t k e) j ≡ e = rw (← kj) (entry_set t k e has) in
+            let there : frame_in (table_entry (with_entry t k e) j) ≡ Some f = ap frame_in now in
+            let fg : f ≡ g = cc (there, i) in
+            let within = reserved_within b f k kept.frame in
+            let size = tied.sizes in
+            rw (← fg, now) (get_or-set_same b.clean f (not d) false (omega arith))
+        | inr n ↦
+            let now : table_entry (with_entry t k e) j ≡ table_entry t j = entry_kept t k j e has (λ kj. let s : same k j ≡ true = rw (← kj) (same_self k) in cc) in
+            let was : frame_in (table_entry t j) ≡ Some g = sym (ap frame_in now) ∙ i in
+            get_or-set_other b.clean f g (not d) false (holds_none b f g j none (tied.entries j g was)) ∙ (tied.marks j g was ∙ ap (λ y. not (dirt y)) (sym now))
+      ];
     }
   where
     either : (y : Bool) → (y || (true || false)) ≡ true
@@ -214,7 +234,7 @@ pages_kept t b outs f x tied none = each b.residents
 
 -- the page that is read in is the newest
 pub pages_filled : (t : Table) (b : BufferSeen) (outs : List (Option ReadOut)) (k : Key) (f : ℕ) (p d : Bool) (bytes : List ℕ) → Tied t b outs → KeptFor b outs k f → HasPage t k → table_entry t k ≡ Absent
-    → pages_seen (with_entry t k (Present p d f)) (filled_with b f k bytes) ≡ pages_seen t b ++ record { key = k; protected = p; dirty = d; bytes = bytes } ∷ []
+    → pages_seen (with_entry t k (Present p d f)) (filled_with b f k bytes (not d)) ≡ pages_seen t b ++ record { key = k; protected = p; dirty = d; bytes = bytes } ∷ []
 pages_filled t b outs k f p d bytes tied kept has absent =
     let x : FrameSeen = frame.Resident k bytes in
     let e : PageEntry = Present p d f in

@@ -1,34 +1,81 @@
 -- What a change of one page's entry makes of the pages that are seen, where the page keeps its frame.
-use Rattle.std.proofs.Common.{ap, false, inl, inr, is_some, not, refl, subst, sym, true, ◌&&◌, ◌∙◌, ◌≡◌}
+use Rattle.std.proofs.Common.{ap, arith, Bool, false, get_or-set_same, get_or-set_other, inl, inr, is_some, length-set, List, None, not, Option, refl, Some, subst, sym, true, ℕ, ◌&&◌, ◌∙◌, ◌≡◌}
+use Rattle.stripe_core.specs.InsideParts.{ReadOut}
 use Rattle.std.proofs.lemmas.Bool.{cases_Bool}
 use Rattle.page_base.specs.Pages.{same}
 use Rattle.page_base.specs.declared.keys.Key.{Key}
 use Rattle.soft_mmu.specs.declared.entry.PageEntry.{PageEntry}
 use Rattle.soft_mmu.specs.declared.entry.PageEntry.TheVariants.{Absent, Present}
 use Rattle.soft_mmu.specs.Entries.{table_entry, with_entry, HasPage, is_present, is_protected, opened, closed, cleaned, bits_of}
-use Rattle.page_buffer.specs.Buffers.{BufferSeen}
+use Rattle.page_buffer.specs.Buffers.{BufferSeen, marked, is_clean}
 use Rattle.page_model.specs.Core.{Resident, protects, dirties}
 use Rattle.page_model.specs.Steps.{on_page}
 use Rattle.stripe_core.specs.Parts.{Table, page_in, page_seen, pages_seen}
-use Rattle.stripe_core.specs.InsideTied.{frame_in}
-use Rattle.stripe_core.proofs.Keys.{entry_set, entry_kept, same-true, same_self}
+use Rattle.stripe_core.specs.InsideTied.{Tied, dirt, frame_in}
+use Rattle.stripe_core.proofs.Keys.{entry_set, entry_kept, same-true, same_self, resident_within}
 use Rattle.stripe_core.proofs.Looks.{at_entry}
-use Rattle.stripe_core.proofs.Ties.{SameFrames, pages_changed, one_changes}
+use Rattle.stripe_core.proofs.Ties.{SameFrames, frames_apart, pages_changed, one_changes}
+
+other_key : (k j : Key) → same k j ≡ false → k ≡ j → ⊥
+other_key k j n kj = let s : same k j ≡ true = rw (sym kj) (same_self k) in cc
 
 -- the page keeps its frame
-pub entry_same : (t : Table) (b : BufferSeen) (k : Key) (e : PageEntry) → HasPage t k → frame_in e ≡ frame_in (table_entry t k) → SameFrames t (with_entry t k e) b b
-entry_same t b k e has is = record {
+kept_frames : (t : Table) (k : Key) (e : PageEntry) → HasPage t k → frame_in e ≡ frame_in (table_entry t k) → (j : Key) → frame_in (table_entry (with_entry t k e) j) ≡ frame_in (table_entry t j)
+kept_frames t k e has is j = elim (cases_Bool (same k j)) [
+  | inl s ↦
+      let kj : k ≡ j = same-true k j s in
+      let P : Key → Type 0 = λ i. frame_in (table_entry (with_entry t k e) i) ≡ frame_in (table_entry t i) in
+      subst P kj (ap frame_in (entry_set t k e has) ∙ is)
+  | inr n ↦ ap frame_in (entry_kept t k j e has (other_key k j n))
+]
+
+-- the page keeps its frame and its dirty bit
+pub entry_same : (t : Table) (b : BufferSeen) (k : Key) (e : PageEntry) → HasPage t k → frame_in e ≡ frame_in (table_entry t k) → dirt e ≡ dirt (table_entry t k) → SameFrames t (with_entry t k e) b b
+entry_same t b k e has is same_dirt = record {
   residents = refl;
-  entries = λ j. elim (cases_Bool (same k j)) [
-    | inl s ↦
-        let kj : k ≡ j = same-true k j s in
-        let P : Key → Type 0 = λ i. frame_in (table_entry (with_entry t k e) i) ≡ frame_in (table_entry t i) in
-        subst P kj (ap frame_in (entry_set t k e has) ∙ is)
-    | inr n ↦ ap frame_in (entry_kept t k j e has (λ kj. let s : same k j ≡ true = rw (sym kj) (same_self k) in cc))
-  ];
+  entries = kept_frames t k e has is;
   held = λ g. refl;
   kept = λ g. refl;
   counted = refl;
+  sizes = λ old. old;
+  marks = λ old j f here. old j f (sym (kept_frames t k e has is j) ∙ here) ∙ ap not (sym (bit j));
+}
+  where
+    bit : (j : Key) → dirt (table_entry (with_entry t k e) j) ≡ dirt (table_entry t j)
+    bit j = elim (cases_Bool (same k j)) [
+      | inl s ↦
+          let kj : k ≡ j = same-true k j s in
+          let P : Key → Type 0 = λ i. dirt (table_entry (with_entry t k e) i) ≡ dirt (table_entry t i) in
+          subst P kj (ap dirt (entry_set t k e has) ∙ same_dirt)
+      | inr n ↦ ap dirt (entry_kept t k j e has (other_key k j n))
+    ]
+
+-- the page keeps its frame, and its mark goes with its dirty bit
+pub entry_marked : (t : Table) (b : BufferSeen) (outs : List (Option ReadOut)) (k : Key) (e : PageEntry) (f : ℕ) (m : Bool) → Tied t b outs → HasPage t k → frame_in e ≡ frame_in (table_entry t k) → frame_in (table_entry t k) ≡ Some f → m ≡ not (dirt e)
+    → SameFrames t (with_entry t k e) b (marked b f m)
+entry_marked t b outs k e f m tied has is at mark = record {
+  residents = refl;
+  entries = kept_frames t k e has is;
+  held = λ g. refl;
+  kept = λ g. refl;
+  counted = refl;
+  sizes = λ old. length-set b.clean f m ∙ old;
+  marks = λ old j g here. elim (cases_Bool (same k j)) [
+    | inl s ↦
+        let kj : k ≡ j = same-true k j s in
+        let now : frame_in (table_entry t j) ≡ Some g = sym (kept_frames t k e has is j) ∙ here in
+        let at_j : frame_in (table_entry t j) ≡ Some f = ap (λ i. frame_in (table_entry t i)) (sym kj) ∙ at in
+        let fg : f ≡ g = cc (now, at_j) in
+        let held = resident_within b f k (tied.entries k f at) in
+        let size = tied.sizes in
+        let set : is_clean (marked b f m) f ≡ m = get_or-set_same b.clean f m false (omega arith) in
+        let bit : dirt (table_entry (with_entry t k e) j) ≡ dirt e = ap (λ i. dirt (table_entry (with_entry t k e) i)) (sym kj) ∙ ap dirt (entry_set t k e has) in
+        ap (is_clean (marked b f m)) (sym fg) ∙ (set ∙ (mark ∙ ap not (sym bit)))
+    | inr n ↦
+        let was : frame_in (table_entry t j) ≡ Some g = sym (kept_frames t k e has is j) ∙ here in
+        let apart : g ≡ f → ⊥ = frames_apart t b outs j k f g tied was (tied.entries k f at) (λ jk. other_key k j n (sym jk)) in
+        get_or-set_other b.clean f g m false apart ∙ (old j g was ∙ ap (λ x. not (dirt x)) (sym (entry_kept t k j e has (other_key k j n))))
+  ];
 }
 
 -- the page changes as the core says
@@ -98,3 +145,15 @@ open_stays t b k calm =
     here (Present true d f) h = absurd cc
     here (Present false true f) h = refl
     here (Present false false f) h = refl
+
+pub closed_dirt : (e : PageEntry) → dirt (closed e) ≡ dirt e
+closed_dirt Absent = refl
+closed_dirt (Present p d f) = refl
+
+pub opened_dirt : (e : PageEntry) (f : ℕ) → frame_in e ≡ Some f → false ≡ not (dirt (opened e))
+opened_dirt Absent f is = absurd cc
+opened_dirt (Present p d g) f is = refl
+
+pub cleaned_dirt : (e : PageEntry) (f : ℕ) → frame_in e ≡ Some f → true ≡ not (dirt (cleaned e))
+cleaned_dirt Absent f is = absurd cc
+cleaned_dirt (Present p d g) f is = refl

@@ -1,5 +1,5 @@
 -- That an eviction keeps table, frames and reads tied, and that the page alone leaves.
-use Rattle.std.proofs.Common.{Bool, List, None, Option, Some, [], ap, arith, cond, false, inl, inr, map, not, refl, subst, sym, true, ℕ, ◌∙◌, ◌∷◌, ◌≡◌, ◌||◌}
+use Rattle.std.proofs.Common.{Bool, List, None, Option, Some, [], ap, arith, cond, false, inl, inr, length-set, map, not, refl, subst, sym, true, ℕ, ◌∙◌, ◌∷◌, ◌≡◌, ◌||◌}
 use Rattle.std.proofs.lemmas.Bool.{cases_Bool, cases_eq}
 use Rattle.std.specs.Option.{is_some}
 use Rattle.page_base.specs.Pages.{same}
@@ -14,7 +14,7 @@ use Rattle.page_model.specs.Residents.{is_in}
 use Rattle.page_model.specs.Steps.{without_page}
 use Rattle.stripe_core.specs.Parts.{Table, page_in, page_seen, pages_seen}
 use Rattle.stripe_core.specs.InsideParts.{ReadOut}
-use Rattle.stripe_core.specs.InsideTied.{Tied, frame_in, reserved_key}
+use Rattle.stripe_core.specs.InsideTied.{Tied, dirt, frame_in, reserved_key}
 use Rattle.stripe_core.proofs.Counted.{count_set, one_if}
 use Rattle.stripe_core.proofs.Keys.{same-true, same_self, entry_set, entry_kept, frame_set, frame_kept, resident_within}
 use Rattle.stripe_core.proofs.Looks.{page_key}
@@ -99,6 +99,16 @@ release_tied t b outs k f tied has is =
           let all = count_set is_reserved b.frames f Free Free within in
           let bits : one_if (is_reserved (frame_of b f)) ≡ 0 = ap one_if what.1 in
           omega (arith, all, bits, tied.counted);
+      sizes = tied.sizes ∙ sym (length-set b.frames f Free);
+      marks = λ j g e. elim (cases_Bool (same k j)) [
+        | inl s ↦
+            let kj : k ≡ j = same-true k j s in
+            let none : frame_in (table_entry (with_entry t k Absent) j) ≡ None = rw (← kj) (ap frame_in (entry_set t k Absent has)) in
+            absurd cc
+        | inr n ↦
+            let now : table_entry (with_entry t k Absent) j ≡ table_entry t j = entry_kept t k j Absent has (apart j n) in
+            tied.marks j g (sym (ap frame_in now) ∙ e) ∙ ap (λ y. not (dirt y)) (sym now)
+      ];
     }
 
 pub pages_released : (t : Table) (b : BufferSeen) (outs : List (Option ReadOut)) (k : Key) (f : ℕ) → Tied t b outs → HasPage t k → frame_in (table_entry t k) ≡ Some f

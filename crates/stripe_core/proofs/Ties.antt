@@ -1,5 +1,5 @@
 -- That a change of bits or bytes keeps table, frames and reads tied, and what it makes of the pages that are seen.
-use Rattle.std.proofs.Common.{Bool, List, None, Option, Some, [], ap, arith, cond, drop, false, inl, inr, length, length-append, length-drop, length-take, map, refl, subst, sym, take, true, ℕ, ◌+◌, ◌++◌, ◌-◌, ◌<◌, ◌∙◌, ◌∷◌, ◌≡◌, ◌≤◌}
+use Rattle.std.proofs.Common.{Bool, List, not, length-set, None, Option, Some, [], ap, arith, cond, drop, false, inl, inr, length, length-append, length-drop, length-take, map, refl, subst, sym, take, true, ℕ, ◌+◌, ◌++◌, ◌-◌, ◌<◌, ◌∙◌, ◌∷◌, ◌≡◌, ◌≤◌}
 use Rattle.std.proofs.lemmas.Bool.{cases_Bool, cases_eq}
 use Rattle.std.proofs.lemmas.Grind.{common_steps}
 use Rattle.std.proofs.lemmas.List.{drop-drop}
@@ -12,13 +12,13 @@ use Rattle.soft_mmu.specs.declared.entry.PageEntry.TheVariants.{Absent, Present}
 use Rattle.soft_mmu.specs.Entries.{table_entry, with_entry, HasPage}
 use Rattle.page_buffer.specs.Frames.{FrameSeen, Free, Reserved, resident_key, is_reserved, is_resident, bytes_of, with_bytes, refilled}
 use Rattle.page_buffer.specs.Frames as frame
-use Rattle.page_buffer.specs.Buffers.{BufferSeen, frame_of, with_frame, with_page, reserved_frames}
+use Rattle.page_buffer.specs.Buffers.{BufferSeen, frame_of, with_frame, with_page, is_clean, reserved_frames}
 use Rattle.page_model.specs.Core.{Resident}
 use Rattle.page_model.specs.Residents.{is_in}
 use Rattle.page_model.specs.Steps.{on_page}
 use Rattle.stripe_core.specs.Parts.{Table, page_in, page_seen, pages_seen}
 use Rattle.stripe_core.specs.InsideParts.{ReadOut}
-use Rattle.stripe_core.specs.InsideTied.{Tied, frame_in, reserved_key}
+use Rattle.stripe_core.specs.InsideTied.{Tied, dirt, frame_in, reserved_key}
 use Rattle.stripe_core.proofs.Counted.{count_set, one_if}
 use Rattle.stripe_core.proofs.Keys.{same-true, same_self, entry_set, entry_kept, frame_set, frame_kept, resident_within}
 use Rattle.stripe_core.proofs.Looks.{page_key, holds_page}
@@ -32,6 +32,9 @@ pub record SameFrames (t new : Table) (b after : BufferSeen) : Type 0 where
   pub held : (f : ℕ) → resident_key (frame_of after f) ≡ resident_key (frame_of b f)
   pub kept : (f : ℕ) → reserved_key (frame_of after f) ≡ reserved_key (frame_of b f)
   pub counted : reserved_frames after ≡ reserved_frames b
+  pub sizes : length b.clean ≡ length b.frames → length after.clean ≡ length after.frames
+  pub marks : ((k : Key) (f : ℕ) → frame_in (table_entry t k) ≡ Some f → is_clean b f ≡ not (dirt (table_entry t k)))
+      → (k : Key) (f : ℕ) → frame_in (table_entry new k) ≡ Some f → is_clean after f ≡ not (dirt (table_entry new k))
 
 pub still_tied : (t new : Table) (b after : BufferSeen) (outs : List (Option ReadOut)) → SameFrames t new b after → Tied t b outs → Tied new after outs
 still_tied t new b after outs same_frames tied = record {
@@ -41,22 +44,8 @@ still_tied t new b after outs same_frames tied = record {
   kept = λ f k e. tied.kept f k (sym (same_frames.kept f) ∙ e);
   reads = λ r o e. let was = tied.reads r o e in (was.0, same_frames.kept o.frame ∙ was.1);
   counted = same_frames.counted ∙ tied.counted;
-}
-
--- a page's bits
-pub bits_same : (t : Table) (b : BufferSeen) (k : Key) (p d q e : Bool) (f : ℕ) → HasPage t k → table_entry t k ≡ Present p d f → SameFrames t (with_entry t k (Present q e f)) b b
-bits_same t b k p d q e f has is = record {
-  residents = refl;
-  entries = λ j. elim (cases_Bool (same k j)) [
-    | inl s ↦
-        let kj : k ≡ j = same-true k j s in
-        let P : Key → Type 0 = λ i. frame_in (table_entry (with_entry t k (Present q e f)) i) ≡ frame_in (table_entry t i) in
-        subst P kj (ap frame_in (entry_set t k (Present q e f) has) ∙ sym (ap frame_in is))
-    | inr n ↦ ap frame_in (entry_kept t k j (Present q e f) has (λ kj. let s : same k j ≡ true = rw (sym kj) (same_self k) in cc))
-  ];
-  held = λ g. refl;
-  kept = λ g. refl;
-  counted = refl;
+  sizes = same_frames.sizes tied.sizes;
+  marks = same_frames.marks tied.marks;
 }
 
 count_same : (b : BufferSeen) (f : ℕ) (x : FrameSeen) → f < length b.frames → is_reserved x ≡ is_reserved (frame_of b f) → reserved_frames (with_frame b f x) ≡ reserved_frames b
@@ -85,6 +74,8 @@ bytes_same t b k f bytes is =
         | inr n ↦ ap reserved_key (frame_kept b f g x n)
       ];
       counted = count_same b f x within (sym none.0);
+      sizes = λ old. old ∙ sym (length-set b.frames f x);
+      marks = λ old. old;
     }
 
 -- ---- what a change makes of the pages that are seen

@@ -1,5 +1,5 @@
 -- The parts of a stripe that has just been made.
-use Rattle.std.specs.Prelude.{ℕ, false, List, [], ◌∷◌, ◌≡◌, replicate, slice_set}
+use Rattle.std.specs.Prelude.{ℕ, false, List, [], ◌∷◌, ◌≡◌, length, replicate, slice_set}
 use Rattle.std.proofs.Common.{Vec}
 use Rattle.std.specs.declared.alloc.Global.{Global}
 use Rattle.page_base.specs.declared.keys.RegionShape.{RegionShape}
@@ -12,7 +12,7 @@ use Rattle.stripe_core.specs.Configs.{setup_of}
 
 -- as many free frames as the quota
 abbrev pub buffer_made : StripeConfig → BufferSeen
-buffer_made c = all_free (quota (setup_of c [])) c.layout.page_size
+buffer_made c = all_free (quota (setup_of c [])) c.layout.page_size (length c.shapes.items)
 
 -- the read faults of a region none of whose reads failed
 abbrev pub no_faults : RegionShape → List ℕ

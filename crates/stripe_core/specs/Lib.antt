@@ -4,8 +4,11 @@ pub mod InsideMade
 pub mod Parts
 pub mod InsideParts
 pub mod InsideTied
+pub mod InsideOldest
+pub mod InsideWaiting
 pub mod Standing
 pub mod Fixed
+pub mod InsideServing
 pub mod InsideSteps
 pub mod Trips
 pub mod Copies

@@ -1,16 +1,15 @@
-//! Readers that serve eviction, flushing and unmapping. Each walks the resident pages once at the most, in order of filling,
-//! and stops at the first that passes; `quiet` walks the faults that wait as well.
-ghost use Rattle.std.specs.Prelude.{◌≡◌, ◌<◌, ◌==◌, ◌&&◌, ◌||◌, not, true, find, option_map, slice_get, IfSome};
+//! Readers that serve eviction, flushing and unmapping. None walks the resident pages but `frame`, over those before its place.
+ghost use Rattle.std.specs.Prelude.{◌≡◌, ◌<◌, ◌==◌, ◌&&◌, not, true, find, option_map, slice_get, IfSome};
 ghost use Rattle.std.specs.List.{list_any};
 ghost use Rattle.page_model.specs.Core as core;
 ghost use Rattle.page_model.specs.Setups.{quota, regions};
-ghost use Rattle.fault_queue.specs.Queues.{raise_of};
 ghost use Rattle.stripe_core.specs.FrameStates.{frame_state, state_of};
-ghost use Rattle.stripe_core.specs.InsideFrameStates.{keys_of, leaves, pick_at};
+ghost use Rattle.stripe_core.specs.InsideFrameStates.{keys_of, pick_at};
 
 use crate::answers::FrameState;
+use crate::oldest::oldest_leaving;
 use crate::stripe::Stripe;
-use page_base::{Key, Why};
+use page_base::Key;
 use page_model::Pick;
 use page_model::events::flush_knows;
 use store_trait::Store;
@@ -58,7 +57,7 @@ impl<S: Store> Stripe<S> {
         ensures exact { result ≡ core.is_quiet self.now region }
     {
         let resident = self.has_resident(region);
-        let waits = self.first_fault_of(region).is_some();
+        let waits = self.queue.faults().waits_in(region);
         nothing_left(resident, waits, self.is_home(region))
     }
 
@@ -91,15 +90,6 @@ impl<S: Store> Stripe<S> {
         Pick { key, dirty }
     }
 
-    fn is_writing(&self, key: Key) -> bool
-        ensures exact { result ≡ core.is_writing self.now key }
-    {
-        match self.regions.get(key.region as usize) {
-            Some(region) => region.lane.writes(key),
-            None => false,
-        }
-    }
-
     fn has_lane(&self, region: u16) -> bool
         ensures exact { result ≡ core.is_home self.now region }
     {
@@ -107,14 +97,6 @@ impl<S: Store> Stripe<S> {
             Some(region) => region.lane.is_home(),
             None => false,
         }
-    }
-
-    fn may_leave(&self, key: Key) -> bool
-        requires present { core.is_present self.now key ≡ true }
-        ensures exact { result ≡ leaves self.now key }
-    {
-        let pick = self.pick_of(key);
-        is_free_to_go(self.is_writing(key), pick.dirty, self.has_lane(key.region))
     }
 
     /// Whether a page of the region is resident.
@@ -130,12 +112,8 @@ impl<S: Store> Stripe<S> {
         ensures picks { option_map (pick_at self.now) result ≡ core.pick self.now }
         ensures present { IfSome result (λ key. core.is_present self.now key ≡ true) }
     {
-        self.buffer.oldest_where(
-            |key: Key| -> bool
-                requires { core.is_present self.now key ≡ true }
-                ensures { result ≡ leaves self.entry.now key }
-            { self.may_leave(key) },
-        )
+        self.buffer.ordered();
+        self.buffer.at(oldest_leaving(&self.buffer, &self.regions)?)
     }
 
     /// The key of the oldest resident page of a region.
@@ -144,21 +122,8 @@ impl<S: Store> Stripe<S> {
         ensures present { IfSome result (λ key. core.is_present self.now key ≡ true) }
         ensures exact { result ≡ find (λ k. k.region == region) (keys_of self.now) }
     {
-        self.buffer.oldest_where(
-            |key: Key| -> bool
-                ensures { result ≡ (key.region == region) }
-            { key.region == region },
-        )
-    }
-
-    fn first_fault_of(&self, region: u16) -> Option<(Key, Why)>
-        ensures exact { option_map raise_of result ≡ find (λ p. p.key.region == region) self.now.queue }
-    {
-        self.queue.first_where(
-            |key: Key, _why: Why| -> bool
-                ensures { result ≡ (key.region == region) }
-            { key.region == region },
-        )
+        self.buffer.ordered();
+        self.buffer.at(self.buffer.oldest_of(region)?)
     }
 }
 
@@ -172,12 +137,6 @@ fn show(page: Pick, home: bool) -> FrameState
     } else {
         FrameState::Away(page.key)
     }
-}
-
-fn is_free_to_go(writing: bool, dirty: bool, home: bool) -> bool
-    ensures { result ≡ (not writing && (not dirty || home)) }
-{
-    !writing && (!dirty || home)
 }
 
 fn nothing_left(resident: bool, waits: bool, home: bool) -> bool

@@ -27,6 +27,7 @@ impl<S: Store> Stripe<S> {
         let Found::Hit(frame) = self.table.translate(key, Wants::Read) else {
             unreachable!()
         };
+        self.queue.lose(key);
         self.table.remove(key);
         self.buffer.release(frame);
     }

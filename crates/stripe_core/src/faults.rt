@@ -1,12 +1,14 @@
 //! Faults: how a page comes to wait, and what is served next.
-ghost use Rattle.std.specs.Prelude.{◌≡◌, ◌≢◌, ◌<◌, ◌^◌, ◌&&◌, true, false, find, option_map};
+ghost use Rattle.std.specs.Prelude.{◌≡◌, ◌≢◌, ◌<◌, ◌^◌, ◌&&◌, not, true, false, find, option_map};
 ghost use Rattle.std.specs.List.{list_any};
 ghost use Rattle.page_model.specs.declared.entry.Entry.TheVariants as entry;
 ghost use Rattle.page_model.specs.Core as core;
+ghost use Rattle.page_model.specs.declared.seen.Next.TheVariants as serve;
 ghost use Rattle.page_model.specs.Events.{CanRaiseFor};
 ghost use Rattle.page_model.specs.Setups.{has_page, regions};
 ghost use Rattle.page_model.specs.Steps as step;
-ghost use Rattle.fault_queue.specs.Queues.{raise_of};
+ghost use Rattle.fault_queue.specs.Queues.{raise_of, opens_why};
+ghost use Rattle.stripe_core.specs.InsideServing.{in_closing, is_ready, is_ready_in};
 ghost use Rattle.stripe_core.specs.Answers.{raise_answer};
 ghost use Rattle.stripe_core.specs.Standing.{StandsAfter};
 
@@ -55,13 +57,6 @@ impl<S: Store> Stripe<S> {
             self.free_frames() > 0 && self.is_home(key.region)
         }
     }
-
-    fn waits_for_room(&self, key: Key, why: Why) -> bool
-        requires page { has_page self.now.setup key ≡ true }
-        ensures exact { result ≡ core.waits_for_room self.now (record { key = key; why = why }) }
-    {
-        !matches!(why, Why::Protected) && self.is_home(key.region)
-    }
 }
 
 // The steps, by the data that they leave.
@@ -69,6 +64,7 @@ impl<S: Store> Stripe<S> {
     fn raise_step(&mut self, key: Key, why: Why) -> Raise
         requires few { self.old.events < 2 ^ 62 }
         requires page { has_page self.old.setup key ≡ true }
+        requires fits { opens_why why ≡ true → core.is_guarded self.old key ≡ true }
         ensures answer { result ≡ raise_answer self.old key }
         ensures step { result ≡ Raise.Raised → self.new ≡ step.raise self.old key why }
         ensures same { result ≢ Raise.Raised → self.new ≡ self.old }
@@ -152,7 +148,7 @@ impl<S: Store> Stripe<S> {
         self.hint_step(key)
     }
 
-    /// What has to be done next for the pages that wait. One pass over the queue for each kind of service.
+    /// What has to be done next for the pages that wait.
     pub fn next(&self) -> Next
         ensures exact { result ≡ core.next self.now }
     {
@@ -167,26 +163,57 @@ impl<S: Store> Stripe<S> {
         }
     }
 
+    /// The page to read, where that is next.
+    pub(crate) fn next_read(&self) -> Key
+        requires next { (k : Key) × (core.next self.now ≡ serve.Read k) }
+        ensures is { core.next self.now ≡ serve.Read result }
+    {
+        let Some((key, _)) = self.first_servable() else {
+            unreachable!()
+        };
+        key
+    }
+
+    /// The page to open, where that is next.
+    pub(crate) fn next_open(&self) -> Key
+        requires next { (k : Key) × (core.next self.now ≡ serve.Open k) }
+        ensures is { core.next self.now ≡ serve.Open result }
+    {
+        let Some((key, _)) = self.first_servable() else {
+            unreachable!()
+        };
+        key
+    }
+
+    /// The page of the fault to drop, where that is next.
+    pub(crate) fn next_drop(&self) -> Key
+        requires next { (k : Key) × (core.next self.now ≡ serve.Drop k) }
+        ensures is { core.next self.now ≡ serve.Drop result }
+    {
+        let Some((key, _)) = self.first_stale() else {
+            unreachable!()
+        };
+        key
+    }
+
     fn first_stale(&self) -> Option<(Key, Why)>
         ensures exact { option_map raise_of result ≡ find (core.is_stale self.now) self.now.queue }
     {
-        self.queue.first_where(
-            |key: Key, why: Why| -> bool
-                requires { has_page self.now.setup key ≡ true }
-                ensures { result ≡ core.is_stale self.entry.now (record { key = key; why = why }) }
-            { self.is_stale(key, why) },
-        )
+        if self.queue.lost() > 0 {
+            self.first_stale_of_all()
+        } else {
+            self.first_closing()
+        }
     }
 
     fn first_servable(&self) -> Option<(Key, Why)>
         ensures exact { option_map raise_of result ≡ find (core.is_servable self.now) self.now.queue }
     {
-        self.queue.first_where(
-            |key: Key, why: Why| -> bool
-                requires { has_page self.now.setup key ≡ true }
-                ensures { result ≡ core.is_servable self.entry.now (record { key = key; why = why }) }
-            { self.is_servable(key, why) },
-        )
+        if self.queue.lost() > 0 {
+            self.first_servable_of_all()
+        } else {
+            self.first_ready()
+        }
     }
 
     fn some_waits(&self) -> bool
@@ -194,15 +221,62 @@ impl<S: Store> Stripe<S> {
     {
         self.first_waiting().is_some()
     }
+}
+
+// Searches by group, and the walks over all faults that wait, for where one may be lost.
+impl<S: Store> Stripe<S> {
+    fn first_closing(&self) -> Option<(Key, Why)>
+        ensures exact { option_map raise_of result ≡ find (in_closing self.now) self.now.queue }
+    {
+        self.queue.faults().first_among(
+            |region: u16, _opens: bool| -> bool
+                requires { region < regions self.now.setup }
+                ensures { result ≡ core.is_closing self.entry.now region }
+            { self.is_closing(region) },
+        )
+    }
+
+    fn first_ready(&self) -> Option<(Key, Why)>
+        ensures exact { option_map raise_of result ≡ find (is_ready self.now) self.now.queue }
+    {
+        self.queue.faults().first_among(
+            |region: u16, opens: bool| -> bool
+                requires { region < regions self.now.setup }
+                ensures { result ≡ is_ready_in self.entry.now region opens }
+            { opens || self.free_frames() > 0 && self.is_home(region) },
+        )
+    }
 
     fn first_waiting(&self) -> Option<(Key, Why)>
         ensures exact { option_map raise_of result ≡ find (core.waits_for_room self.now) self.now.queue }
     {
-        self.queue.first_where(
+        self.queue.faults().first_among(
+            |region: u16, opens: bool| -> bool
+                requires { region < regions self.now.setup }
+                ensures { result ≡ (not opens && core.is_home self.entry.now region) }
+            { !opens && self.is_home(region) },
+        )
+    }
+
+    fn first_stale_of_all(&self) -> Option<(Key, Why)>
+        ensures exact { option_map raise_of result ≡ find (core.is_stale self.now) self.now.queue }
+    {
+        self.queue.faults().first_where(
             |key: Key, why: Why| -> bool
                 requires { has_page self.now.setup key ≡ true }
-                ensures { result ≡ core.waits_for_room self.entry.now (record { key = key; why = why }) }
-            { self.waits_for_room(key, why) },
+                ensures { result ≡ core.is_stale self.entry.now (record { key = key; why = why }) }
+            { self.is_stale(key, why) },
+        )
+    }
+
+    fn first_servable_of_all(&self) -> Option<(Key, Why)>
+        ensures exact { option_map raise_of result ≡ find (core.is_servable self.now) self.now.queue }
+    {
+        self.queue.faults().first_where(
+            |key: Key, why: Why| -> bool
+                requires { has_page self.now.setup key ≡ true }
+                ensures { result ≡ core.is_servable self.entry.now (record { key = key; why = why }) }
+            { self.is_servable(key, why) },
         )
     }
 }

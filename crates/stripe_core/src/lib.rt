@@ -14,6 +14,7 @@ mod config;
 mod eviction_readers;
 mod evictions;
 mod faults;
+mod oldest;
 mod openings;
 mod readers;
 mod reads;
@@ -21,6 +22,7 @@ mod region;
 mod room;
 mod stripe;
 mod trip;
+mod waiting_faults;
 mod writes;
 
 pub use answers::{FrameState, Look, Raise};

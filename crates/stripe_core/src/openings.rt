@@ -13,8 +13,8 @@ ghost use Rattle.stripe_core.specs.Standing.{StandsAfter};
 
 use crate::stripe::Stripe;
 use page_base::Key;
-use page_model::Next;
 use page_model::events::{drop_raise_stands, open_page_stands, service_knows};
+use soft_mmu::{Found, Wants};
 use store_trait::Store;
 
 // The steps, by the data that they leave.
@@ -26,17 +26,23 @@ impl<S: Store> Stripe<S> {
         requires pending { core.is_pending self.old key ≡ true }
         ensures step { self.new ≡ step.open_page self.old key }
     {
+        let Found::Hit(frame) = self.table.translate(key, Wants::Read) else {
+            unreachable!()
+        };
         self.table.open_page(key);
+        self.buffer.mark_dirty(frame);
         self.queue.withdraw(key);
         self.events += 1;
     }
 
     fn drop_step(&mut self, key: Key)
         requires few { self.old.events < 2 ^ 62 }
+        requires page { has_page self.old.setup key ≡ true }
         requires pending { core.is_pending self.old key ≡ true }
         ensures step { self.new ≡ step.drop_raise self.old key }
     {
-        self.queue.withdraw(key);
+        let guarded = self.table.bits(key).protected;
+        self.queue.drop_out(key, guarded);
         self.events += 1;
     }
 }
@@ -56,9 +62,7 @@ impl<S: Store> Stripe<S> {
     {
         service_knows();
         open_page_stands();
-        let Next::Open(key) = self.next() else {
-            unreachable!()
-        };
+        let key = self.next_open();
         self.open_step(key);
         key
     }
@@ -76,9 +80,7 @@ impl<S: Store> Stripe<S> {
     {
         service_knows();
         drop_raise_stands();
-        let Next::Drop(key) = self.next() else {
-            unreachable!()
-        };
+        let key = self.next_drop();
         self.drop_step(key);
         key
     }

@@ -21,7 +21,6 @@ use crate::region::{Lane, Region, swap_lane};
 use crate::stripe::Stripe;
 use crate::trip::Trip;
 use page_base::{Key, Why};
-use page_model::Next;
 use page_model::events::{
     filled_stands, read_failed_stands, service_knows, start_read_stands, starts_open, whys_agree,
 };
@@ -77,7 +76,7 @@ impl<S: Store> Stripe<S> {
     {
         let read = swap_lane(&mut self.regions, key.region, Lane::Home(lane)).into_read(key);
         let writes = is_write(read.why);
-        self.buffer.fill(read.frame, bytes);
+        self.buffer.fill(read.frame, bytes, !writes);
         self.table.install(key, read.frame, !writes, writes);
         self.evicting = evicts(self.buffer.resident(), self.marks.on, self.evicting);
         self.counts.fills += 1;
@@ -150,9 +149,7 @@ impl<S: Store> Stripe<S> {
         service_knows();
         start_read_stands();
         starts_open();
-        let Next::Read(key) = self.next() else {
-            unreachable!()
-        };
+        let key = self.next_read();
         self.start_step(key)
     }
 

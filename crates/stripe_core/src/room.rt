@@ -8,7 +8,7 @@ ghost use Rattle.stripe_core.specs.InsideMade.{buffer_made, regions_made, no_fau
 
 use crate::config::StripeConfig;
 use crate::region::{Lane, Region};
-use fault_queue::FaultQueue;
+use crate::waiting_faults::WaitingFaults;
 use page_base::{List, OutOfMemory, RegionShape};
 use page_buffer::PageBuffer;
 use soft_mmu::PageTable;
@@ -18,7 +18,7 @@ use std::alloc::Global;
 pub(crate) struct Parts {
     pub(crate) table: PageTable,
     pub(crate) buffer: PageBuffer,
-    pub(crate) queue: FaultQueue,
+    pub(crate) queue: WaitingFaults,
     pub(crate) faults: Vec<Vec<u64>>,
 }
 
@@ -33,9 +33,10 @@ impl Parts {
     {
         let quota = config.layout.quota(config.number);
         let table = PageTable::new(alloc, &config.shapes)?;
-        let queue = FaultQueue::new(alloc, config.faults)?;
+        let queue = WaitingFaults::new(alloc, config.faults)?;
         let faults = faults_of(alloc, &config.shapes)?;
-        let buffer = PageBuffer::new(alloc, quota, config.layout.page_size())?;
+        let regions = config.shapes.len() as u32;
+        let buffer = PageBuffer::new(alloc, quota, config.layout.page_size(), regions)?;
         Ok(Parts {
             table,
             buffer,

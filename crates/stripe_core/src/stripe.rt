@@ -17,7 +17,7 @@ ghost use Rattle.page_model.specs.Setups.{regions};
 use crate::config::{NewStripe, StripeConfig};
 use crate::region::Region;
 use crate::room::{Parts, regions_of};
-use fault_queue::FaultQueue;
+use crate::waiting_faults::WaitingFaults;
 use page_base::{List, Marks, marks};
 use page_buffer::PageBuffer;
 use page_model::Counts;
@@ -32,7 +32,7 @@ use store_trait::Store;
 pub struct Stripe<S: Store> {
     pub(crate) table: PageTable,
     pub(crate) buffer: PageBuffer,
-    pub(crate) queue: FaultQueue,
+    pub(crate) queue: WaitingFaults,
     pub(crate) regions: Vec<Region<S>>,
     /// Room for the lanes when they are handed back.
     pub(crate) home: Vec<S>,

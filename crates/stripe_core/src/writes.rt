@@ -103,9 +103,14 @@ impl<S: Store> Stripe<S> {
         requires page { has_page self.old.setup key ≡ true }
         ensures step { self.new ≡ page_cleaned self.old key }
     {
-        if self.table.bits(key).protected {
-            self.table.mark_clean(key);
+        if !self.table.bits(key).protected {
+            return;
         }
+        let Found::Hit(frame) = self.table.translate(key, Wants::Read) else {
+            unreachable!()
+        };
+        self.table.mark_clean(key);
+        self.buffer.mark_clean(frame);
     }
 
     fn count_write(&mut self)

@@ -21,7 +21,7 @@ loop-preserved g c =
     let read : c.index-raise.result.now ≡ raise_in slots c.unwrap-slot.result = get_or_read slots c.unwrap-slot.result c.index-raise.result.now slot c.index-raise.ensures blank in
     record {
       there = c.next-at.ensures.exact 0 c.loop.counter at;
-      slot = rw (numbers_are q.order (length slots) c.self.invariant.dealt c.sound.ensures.sound) at c.next-at.ensures.within;
+      slot = rw (numbers_are q.order (length slots) c.self.invariant.0.dealt c.sound.ensures.sound) at c.next-at.ensures.within;
       before = all_more (λ (r : Raise). (words g.row.T g.T.Fn).post c.args.test r.key r.why false) (raises_in slots order) c.loop.counter blank c.index-raise.result.now there.0 (there.1 ∙ sym read) c.loop.invariant.before c.if-test.ensures;
     }
 
@@ -46,7 +46,7 @@ returns-clause-none g c =
     let slots = q.slots.items in
     let order = list_at q.order 0 in
     let seen : c.args.self.now.raises ≡ raises_in slots order = ap (λ (v : QueueSeen). v.raises) (sym c.self.view_is) in
-    let all : length (raises_in slots order) ≤ c.loop.counter = omega (arith, length-map order (raise_in slots), c.self.invariant.counted, c.loop-test.false) in
+    let all : length (raises_in slots order) ≤ c.loop.counter = omega (arith, length-map order (raise_in slots), c.self.invariant.0.counted, c.loop-test.false) in
     rw seen (rw (take_all c.loop.counter (raises_in slots order) all) at c.loop.invariant.before)
 
 pub returns-clause-computed : goal.returns-clause-computed
@@ -56,6 +56,6 @@ returns-clause-computed g c =
     let slots = q.slots.items in
     let order = list_at q.order 0 in
     let seen : c.args.self.now.raises ≡ raises_in slots order = ap (λ (v : QueueSeen). v.raises) (sym c.self.view_is) in
-    let all : length (raises_in slots order) ≤ c.loop.counter = omega (arith, length-map order (raise_in slots), c.self.invariant.counted, c.loop-test.false) in
+    let all : length (raises_in slots order) ≤ c.loop.counter = omega (arith, length-map order (raise_in slots), c.self.invariant.0.counted, c.loop-test.false) in
     let answers = λ (r : Raise) (b : Bool). (words g.row.T g.T.Fn).post c.args.test r.key r.why b in
     rw seen (sym (find-nothing answers passes (raises_in slots order) (rw seen at computes) (rw (take_all c.loop.counter (raises_in slots order) all) at c.loop.invariant.before)))

@@ -1,5 +1,4 @@
 use Rattle.std.proofs.Common.{◌∙◌, ap, refl, List, ℕ, length-set}
-use Rattle.index_lists.specs.Lists.{list_at}
 use Rattle.frame_arena.specs.Frames as arena_frame
 use Rattle.std.specs.Prelude.{slice_index_or}
 use Rattle.page_buffer.specs.Frames.{FrameSeen, Free, Resident, page_of, with_bytes}
@@ -26,7 +25,7 @@ returns c =
     let room = c.index_mut.result.now in
     let r = resident_room frames f room (rw (← c.self.view_is) at c.requires.resident) c.index_mut.ensures.value in
     let mine = room_mine c.self.inside.arena frames f room c.self.invariant.0.rooms r.place in
-    let order = list_at c.self.inside.order 0 in
+    let order = c.self.inside.order.order in
     let same = λ (w : List ℕ). residents_same (frames_seen frames) order f (Resident r.key room.page.bytes) (with_bytes (slice_index_or (frames_seen frames) f Free) w) r.holds (ap (λ (x : FrameSeen). page_of (with_bytes x w)) r.holds.is) in (
       (refl, λ w. rw (← c.self.view_is, frames_seen-written frames f room w r, same w)),
       record {

@@ -1,14 +1,12 @@
 use Rattle.std.proofs.Common.{◌≡◌, ◌∙◌, refl, sym, ap, arith, length, length-set}
 use Rattle.std.specs.Prelude.{slice_index_or}
 use Rattle.std.proofs.lemmas.List.{map-set, length-map}
-use Rattle.index_lists.specs.Lists.{list_at}
-use Rattle.page_buffer.specs.declared.frame.Use.TheVariants as in_use
 use Rattle.page_buffer.specs.Frames.{Free, page_of, refilled, is_resident}
 use Rattle.page_buffer.specs.Insides.{frame_seen, frames_seen}
 use Rattle.page_buffer.proofs.Counts.{count_by-misses}
 use Rattle.page_buffer.proofs.Sound.{not_placed}
-use Rattle.page_buffer.proofs.Residents.{residents_filled, refilled-whole, same_seen}
-use Rattle.page_buffer.proofs.Rooms.{reserved_room, sound_filled, linked_pushed, room_mine, stands_not}
+use Rattle.page_buffer.proofs.Residents.{residents_filled, refilled-whole}
+use Rattle.page_buffer.proofs.Rooms.{reserved_room, sound_filled, room_mine, member_not}
 use Rattle.page_buffer.proofs.buffer.PageBuffer.fill.Goals as goal
 
 pub push_back-requires-clause-fresh : goal.push_back-requires-clause-fresh
@@ -17,7 +15,7 @@ push_back-requires-clause-fresh c =
     let f = c.args.frame in
     let s = c.self.invariant.0 in
     let r = reserved_room frames f c.index_mut-room.result.now (rw (← c.self.view_is) at c.requires.reserved) c.index_mut-room.ensures.value in
-    stands_not c.self.inside.order _ f s.linked (not_placed (frames_seen frames) (list_at c.self.inside.order 0) f _ s.pages r.holds refl)
+    member_not c.self.inside.order f (not_placed (frames_seen frames) c.self.inside.order.order f _ s.pages r.holds refl)
 
 pub overflow_add-self : goal.overflow_add-self
 overflow_add-self c =
@@ -37,8 +35,8 @@ invariant_of-self c =
     let f = c.args.frame in
     let r = reserved_room frames f c.index_mut-room.result.now (rw (← c.self.view_is) at c.requires.reserved) c.index_mut-room.ensures.value in
     let key : c.in-Reserved.key ≡ r.key = cc (c.in-Reserved.is, r.used) in
-    let sound = sound_filled c.self.inside.arena frames c.self.inside.order c.self.inside.free.items c.self.inside.resident f c.index_mut-room.result.now _ c.self.invariant.0 r (ap in_use.Resident key) refl in
-    (rw c.push_back.ensures.pushed sound, rw (length-set frames f _) c.self.invariant.1)
+    let sound = sound_filled c.self.inside.arena frames c.self.inside.order c.self.inside.free.items c.self.inside.resident f c.index_mut-room.result.now _ c.args.clean c.self.invariant.0 c.whole.ensures.whole.groups r refl refl in
+    (rw (c.push_back.ensures.appended, key) sound, rw (length-set frames f _) c.self.invariant.1)
 
 pub returns : goal.returns
 returns c =
@@ -53,6 +51,5 @@ returns c =
     let one_page : length c.args.bytes.now ≡ c.self.inside.arena.arena.page_size = rw (← c.self.view_is) at c.requires.page in
     let size : length c.args.bytes.now ≡ length room.page.bytes = one_page ∙ (ap (λ a. a.page_size) (sym mine) ∙ (sym c.bytes_mut.ensures.size ∙ ap length c.bytes_mut.ensures.bytes)) in
     let bytes : refilled room.page.bytes c.copy_from_slice.new.self ≡ c.args.bytes.now = ap (refilled room.page.bytes) c.copy_from_slice.ensures.after ∙ refilled-whole room.page.bytes c.args.bytes.now size in
-    let after = ap (λ l. list_at l 0) c.push_back.ensures.pushed ∙ (linked_pushed c.self.inside.order _ f s.linked).1 in
-    let order = residents_filled (frames_seen frames) (list_at c.self.inside.order 0) f r.key c.args.bytes.now r.holds in
-    record { filled = rw (← c.self.view_is, page, map-set frame_seen frames f _, after, bytes, key) (same_seen _ _ _ _ _ refl order) }
+    let order = residents_filled (frames_seen frames) c.self.inside.order.order f r.key c.args.bytes.now r.holds in
+    record { filled = rw (← c.self.view_is, page, map-set frame_seen frames f _, c.push_back.ensures.appended, bytes, key, order) }

@@ -1,6 +1,5 @@
 use Rattle.std.proofs.Common.{arith}
 use Rattle.std.proofs.lemmas.List.{length-map}
-use Rattle.index_lists.specs.Lists.{list_at}
 use Rattle.page_buffer.specs.Insides.{frames_seen, key_in}
 use Rattle.page_buffer.proofs.Rooms.{frames-together}
 use Rattle.page_buffer.proofs.buffer.PageBuffer.free.Goals as goal
@@ -11,5 +10,5 @@ returns-clause-together c =
     let all = frames-together seen in
     let frees = c.self.invariant.0.list.frees in
     let residents = c.self.invariant.0.pages.residents in
-    let many = length-map (list_at c.self.inside.order 0) (key_in seen) in
+    let many = length-map c.self.inside.order.order (key_in seen) in
     rw (← c.self.view_is) (omega arith)

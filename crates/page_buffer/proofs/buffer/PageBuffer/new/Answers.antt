@@ -55,4 +55,4 @@ invariant_of-result c =
     let home = i.home in
     let all : HasAll c.loop-frame.arena c.loop-frame.frames.items = record { out = omega arith; many = i.taken ∙ (end ∙ sym i.all); mine = i.mine } in
     let few : c.args.quota < 4294967296 = search rules in
-    (rw c.in_ok-order.ensures.empty (sound_new c.loop-frame.arena c.loop-frame.frames.items c.loop-frame.free.items c.args.quota few all seen list), search rules)
+    (rw c.in_ok-order.ensures.empty (sound_new c.loop-frame.arena c.loop-frame.frames.items c.loop-frame.free.items c.args.quota c.args.regions few all seen list), search rules)

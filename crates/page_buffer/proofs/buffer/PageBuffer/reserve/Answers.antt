@@ -1,7 +1,6 @@
 use Rattle.std.proofs.Common.{◌≡◌, ◌++◌, ◌∷◌, [], false, refl, length-set}
 use Rattle.std.specs.List.{list_any}
 use Rattle.std.proofs.lemmas.List.{map-set, length-map}
-use Rattle.index_lists.specs.Lists.{list_at}
 use Rattle.page_buffer.specs.Frames.{Free, Reserved, is_for}
 use Rattle.page_buffer.specs.Insides.{frame_seen, frames_seen}
 use Rattle.page_buffer.proofs.Sound.{last_held, not_placed}
@@ -38,6 +37,6 @@ returns-clause-reserved c =
     let f = c.unwrap-frame.result in
     let sound = rw (rw c.unwrap-frame.ensures at c.pop.ensures.items) at c.self.invariant.0 in
     let held = last_held (frames_seen frames) c.pop.new.self.items f sound.list in
-    let order = list_at c.self.inside.order 0 in
+    let order = c.self.inside.order.order in
     let none = not_placed (frames_seen frames) order f Free sound.pages held refl in
     rw (← c.self.view_is, map-set frame_seen frames f _, residents_kept (frames_seen frames) order f (Reserved c.args.key) none)

@@ -1,6 +1,5 @@
 use Rattle.std.proofs.Common.{refl, arith, length-set}
 use Rattle.std.proofs.lemmas.List.{map-set, length-map}
-use Rattle.index_lists.specs.Lists.{list_at}
 use Rattle.page_buffer.specs.Frames.{Free, Reserved}
 use Rattle.page_buffer.specs.Insides.{frame_seen, frames_seen}
 use Rattle.page_buffer.proofs.Sound.{not_placed}
@@ -28,6 +27,6 @@ returns c =
     let frames = c.self.inside.frames.items in
     let f = c.args.frame in
     let r = reserved_room frames f c.index_mut-room.result.now (rw (← c.self.view_is) at c.requires.reserved) c.index_mut-room.ensures.value in
-    let order = list_at c.self.inside.order 0 in
+    let order = c.self.inside.order.order in
     let none = not_placed (frames_seen frames) order f (Reserved r.key) c.self.invariant.0.pages r.holds refl in
     record { free = rw (← c.self.view_is, map-set frame_seen frames f _, residents_kept (frames_seen frames) order f Free none) }

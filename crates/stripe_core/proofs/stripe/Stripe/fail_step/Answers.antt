@@ -51,7 +51,7 @@ invariant_of-self g c =
     let done = c.fail_read.ensures.regions out.region out.is in
     let none : read_of done.0.lane ≡ None = ap read_of done.1.place in
     let tied : Tied s.table (with_frame s.buffer f Free) (reads_of (slice_set s.regions.items r done.0)) = rw (reads_changed s.regions.items r done.0, none) (fail_tied s.table s.buffer (reads_of s.regions.items) c.args.key f c.self.invariant.0 kept) in
-    let sized = rezoned r out.region done.0 out.is (ap length done.1.read_faults ∙ length-set out.region.read_faults.items c.args.key.page c.faults-faults.result) (resized (with_frame s.buffer f Free) refl (framed s.buffer f Free) c.self.invariant.1) in
+    let sized = rezoned r out.region done.0 out.is (ap length done.1.read_faults ∙ length-set out.region.read_faults.items c.args.key.page c.faults-faults.result) (resized (with_frame s.buffer f Free) refl refl (framed s.buffer f Free) c.self.invariant.1) in
     let room : length (slice_set s.regions.items r done.0) ≤ vec_capacity s.home = let n = length-set s.regions.items r done.0 in omega (arith, n, c.self.invariant.3) in
     let counts : CountsWithin (record s.counts { faults = s.counts.faults + 1 }) (s.events + 1) = omega (arith, c.self.invariant.4) in
     rw (c.unreserve.ensures.free, done.2) (tied, sized, c.self.invariant.2, room, counts)

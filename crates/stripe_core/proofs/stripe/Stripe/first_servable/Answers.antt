@@ -1,19 +1,17 @@
-use Rattle.std.proofs.Common.{◌∙◌, ap, sym, map}
+use Rattle.std.proofs.Common.{◌≡◌, ◌∙◌, ap, sym, arith}
 use Rattle.std.specs.List.{find}
-use Rattle.page_base.specs.declared.keys.Raise.{Raise}
 use Rattle.page_model.specs.Core.{Core}
 use Rattle.page_model.specs.Core as core
-use Rattle.page_model.specs.Setups.{has_page}
-use Rattle.stripe_core.specs.Configs.{setup_of}
-use Rattle.stripe_core.proofs.Sizes.{all_at}
+use Rattle.stripe_core.specs.InsideServing.{in_closing, is_ready}
+use Rattle.stripe_core.proofs.Looks.{at_now}
+use Rattle.stripe_core.proofs.Serving.{all_ready}
 use Rattle.stripe_core.proofs.stripe.Stripe.first_servable.Goals as goal
 
-pub first_where-requires : goal.first_where-requires
-first_where-requires g c =
+pub returns-else-lost-gt0 : goal.returns-else-lost-gt0
+returns-else-lost-gt0 g c =
     let s = c.self.inside in
-    record { callable = λ r con. sym (ap (λ (v : Core). has_page v.setup r.key) c.self.view_is) ∙ all_at (λ (p : Raise). has_page (setup_of s.config.value (map g.S.Store.seen s.lanes.value.items)) p.key) s.queue.raises r c.self.invariant.1.queued con }
-
-pub returns : goal.returns
-returns g c =
-    let found = c.first_where.ensures.computed (core.is_servable c.args.self.now) (λ r b con y. y.2) in
-    record { exact = found ∙ ap (λ (v : Core). find (core.is_servable c.args.self.now) v.queue) c.self.view_is }
+    let now = c.args.self.now in
+    let queue = ap (λ (v : Core). v.queue) c.self.view_is in
+    let none : s.queue.lost ≡ 0 = omega (arith, c.lost.ensures.exact, c.if-lost-gt0.false) in
+    let same = all_ready now s.table s.buffer s.queue c.self.invariant.1.lost none (λ k. at_now now s.table s.buffer _ k c.self.invariant.0 (ap (λ (v : Core). v.pages) c.self.view_is)) in
+    record { exact = c.first_ready.ensures.exact ∙ (ap (find (is_ready now)) (sym queue) ∙ (same ∙ ap (find (core.is_servable now)) queue)) }

@@ -65,4 +65,4 @@ invariant_of-self g c =
     let new = page_rewritten s.buffer c.in-Hit.frame c.args.key c.args.place c.args.bytes.now c.bytes_mut-page.result.now c.copy_from_slice.new.self held fits c.bytes_mut-page.ensures.bytes c.copy_from_slice.ensures.after in
     let tied = still_tied s.table s.table s.buffer _ _ (bytes_same s.table s.buffer c.args.key c.in-Hit.frame (spliced (bytes_of (frame_of s.buffer c.in-Hit.frame)) c.args.place c.args.bytes.now) held) c.self.invariant.0 in
     let within : CountsWithin s.counts (s.events + 1) = omega (arith, c.self.invariant.4) in
-    rw new (tied, resized _ refl (framed s.buffer c.in-Hit.frame _) c.self.invariant.1, c.self.invariant.2, c.self.invariant.3, within)
+    rw new (tied, resized _ refl refl (framed s.buffer c.in-Hit.frame _) c.self.invariant.1, c.self.invariant.2, c.self.invariant.3, within)

@@ -21,6 +21,7 @@ use Rattle.stripe_core.proofs.ReadTies.{start_tied, pages_kept}
 use Rattle.stripe_core.proofs.Sizes.{resized, requeued, rezoned, framed, all_others}
 use Rattle.stripe_core.proofs.Waiting.{free_frames_are, pending_is, why_is, no_frame}
 use Rattle.std.proofs.lemmas.Option.{slice_get_within}
+use Rattle.stripe_core.proofs.Lost.{lost_withdrawn}
 use Rattle.stripe_core.proofs.stripe.Stripe.start_step.Goals as goal
 
 pub prove-unreachable-requires : goal.prove-unreachable-requires
@@ -69,7 +70,7 @@ invariant_of-self g c =
     let started = start_tied s.table s.buffer (reads_of s.regions.items) c.args.key c.reserve-frame.result c.self.invariant.0 c.reserve-frame.ensures.within c.reserve-frame.ensures.free has_read none in
     let tied : Tied s.table (with_frame s.buffer c.reserve-frame.result (Reserved c.args.key)) (reads_of (slice_set s.regions.items r new)) = rw (reads_changed s.regions.items r new) started in
     let queued = all_others _ _ s.queue.raises c.self.invariant.1.queued in
-    let sized = rezoned r home.region new home.is refl (requeued (record s.queue { raises = without c.args.key s.queue.raises }) refl queued (resized (with_frame s.buffer c.reserve-frame.result (Reserved c.args.key)) refl (framed s.buffer c.reserve-frame.result (Reserved c.args.key)) c.self.invariant.1)) in
+    let sized = rezoned r home.region new home.is refl (requeued (record s.queue { raises = without c.args.key s.queue.raises }) refl queued (lost_withdrawn s.table s.queue c.args.key c.self.invariant.1.lost) (resized (with_frame s.buffer c.reserve-frame.result (Reserved c.args.key)) refl refl (framed s.buffer c.reserve-frame.result (Reserved c.args.key)) c.self.invariant.1)) in
     let room : length (slice_set s.regions.items r new) ≤ vec_capacity s.home = let n = length-set s.regions.items r new in omega (arith, n, c.self.invariant.3) in
     let counts : CountsWithin s.counts (s.events + 1) = omega (arith, c.self.invariant.4) in
     rw (c.reserve-frame.ensures.reserved, c.withdraw-why.ensures.others, c.swap_lane.ensures.regions home.region home.is) (tied, sized, c.self.invariant.2, room, counts)

@@ -7,10 +7,11 @@ use Rattle.page_model.specs.Setups.{has_page}
 use Rattle.stripe_core.specs.Parts.{page_in}
 use Rattle.stripe_core.proofs.Looks.{at_now, hit_held, holds_page, is_held}
 use Rattle.stripe_core.proofs.Looks as looks
-use Rattle.stripe_core.proofs.Rebits.{entry_same, entry_changes, closed_frame, closed_page, present_is}
+use Rattle.stripe_core.proofs.Rebits.{entry_same, entry_changes, closed_frame, closed_dirt, closed_page, present_is}
 use Rattle.stripe_core.proofs.Sizes.{retabled}
 use Rattle.stripe_core.proofs.Ties.{still_tied}
 use Rattle.stripe_core.proofs.Writing.{found_there}
+use Rattle.stripe_core.proofs.Lost.{still_within, closed_guards}
 use Rattle.stripe_core.proofs.stripe.Stripe.take_copy.Goals as goal
 
 pub unreachable-requires : goal.unreachable-requires
@@ -31,8 +32,8 @@ invariant_of-self g c =
     let s = c.self.inside in
     let has = c.self.invariant.1.table c.args.key (ap (λ (v : Core). has_page v.setup c.args.key) c.self.view_is ∙ c.requires.page) in
     let new = closed (table_entry s.table c.args.key) in
-    let tied = still_tied s.table _ s.buffer s.buffer _ (entry_same s.table s.buffer c.args.key new has (closed_frame _)) c.self.invariant.0 in
-    rw c.protect.ensures.entry (tied, retabled c.args.key new has c.self.invariant.1, c.self.invariant.2, c.self.invariant.3, c.self.invariant.4)
+    let tied = still_tied s.table _ s.buffer s.buffer _ (entry_same s.table s.buffer c.args.key new has (closed_frame _) (closed_dirt (table_entry s.table c.args.key))) c.self.invariant.0 in
+    rw c.protect.ensures.entry (tied, retabled c.args.key new has (still_within s.table c.args.key new has s.queue (closed_guards (table_entry s.table c.args.key)) c.self.invariant.1.lost) c.self.invariant.1, c.self.invariant.2, c.self.invariant.3, c.self.invariant.4)
 
 pub returns-clause-step : goal.returns-clause-step
 returns-clause-step g c =

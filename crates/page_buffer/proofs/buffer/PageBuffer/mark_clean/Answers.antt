@@ -1,0 +1,7 @@
+use Rattle.std.proofs.Common.{◌∙◌, ap}
+use Rattle.page_buffer.proofs.Counts.{one}
+use Rattle.page_buffer.proofs.Rooms.{member_so}
+use Rattle.page_buffer.proofs.buffer.PageBuffer.mark_clean.Goals as goal
+
+pub mark-requires : goal.mark-requires
+mark-requires c = record { member = member_so c.self.inside.order c.args.frame (c.self.invariant.0.pages.placed c.args.frame ∙ ap one (rw (← c.self.view_is) at c.requires.resident)) }
