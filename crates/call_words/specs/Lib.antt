@@ -1,0 +1,4 @@
+pub mod Uses
+pub mod Variables
+pub mod Calls
+pub mod InsideAsked
