@@ -77,7 +77,7 @@ impl<S: Store + Drop> Hand<S> {
         let mut lanes = List::new(alloc);
         lanes.reserve(1)?;
         lanes.put(lane);
-        let scratch = vec![in alloc; 0u8; layout.page_size() as usize].map_err(|_| OutOfMemory)?;
+        let scratch = vec![in alloc; 0u8; layout.page_size() as usize]?;
         let config = StripeConfig {
             layout,
             number: 0,

@@ -15,7 +15,7 @@ pub fn zeros(alloc: Global, layout: &Layout, pages: u32) -> Result<MemLane, OutO
     ensures { IfOk result (λ lane. lane_origin lane ≡ memory_origin 0 pages layout.now.page_size 1 0) }
 {
     let length = pages as usize * layout.page_size() as usize;
-    let contents = vec![in alloc; 0u8; length].map_err(|_| OutOfMemory)?;
+    let contents = vec![in alloc; 0u8; length]?;
     let store = MemStore::new(Bytes::from_vec(contents), layout.page_size());
     let Ok(lanes) = store.split(layout, 0) else {
         return Err(OutOfMemory);

@@ -4,3 +4,4 @@ pub mod PartRanges
 pub mod PutPages
 pub mod FileLemmas
 pub mod LaneParts
+pub mod Streaming

@@ -1,5 +1,5 @@
 -- What the calls of a folder answer, and what they do to told files and to the parts that are out.
-use Rattle.std.specs.Prelude.{◌≡◌, ◌≢◌, ℕ, ◌*◌, ◌<◌, ◌≤◌, ⊤, min, true, List, ◌++◌, map, length, take, replicate, Option, Some, None, is_some, IfSome, MatchOption, Result, Ok, Err, IfErr, IfOk, slice_get}
+use Rattle.std.specs.Prelude.{◌≡◌, ◌≢◌, ℕ, ◌*◌, ◌<◌, ◌≤◌, ⊤, min, true, List, ◌++◌, map, length, take, replicate, Option, Some, None, is_some, IfSome, IsSomeAnd, MatchOption, Result, Ok, Err, IfErr, IfOk, slice_get}
 use Rattle.std.specs.Option.{option_map}
 use Rattle.std.specs.List.{range_with_len}
 use Rattle.page_base.specs.Backings.{in_file}
@@ -65,10 +65,10 @@ TellsHead file buf (Err OutOfMemory) = ⊥
 
 -- the file has these bytes, fewer than needed
 abbrev pub IsShort : Option (List ℕ) → (have need : ℕ) → Type 0
-IsShort file have need = IfSome file (λ bytes. (length bytes ≡ have) × (have < need))
+IsShort file have need = IsSomeAnd file (λ bytes. (length bytes ≡ have) × (have < need))
 
 abbrev pub Suffices : (need : ℕ) → Option (List ℕ) → Type 0
-Suffices need file = IfSome file (λ bytes. need ≤ length bytes)
+Suffices need file = IsSomeAnd file (λ bytes. need ≤ length bytes)
 
 -- when `open_striped` answers that a file is missing or too short; want of memory may stand in for either
 abbrev pub TellsMissing : {T : Type 0} → Option (List ℕ) → (need : ℕ) → Result T FolderFault → Type 0

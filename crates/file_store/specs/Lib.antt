@@ -11,3 +11,4 @@ pub mod InsideMemSeen
 pub mod MemFiles
 pub mod Parts
 pub mod Shelves
+pub mod Streams

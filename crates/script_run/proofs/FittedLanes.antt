@@ -17,7 +17,7 @@ use Rattle.serial_pager.specs.declared.pager.PagerConfig.{PagerConfig}
 use Rattle.serial_pager.specs.Pagers.{config_of, CanOpen, rows_by}
 use Rattle.workload_text.specs.Grammar.{Region}
 use Rattle.script_run.specs.Contents.{no_lane, pages_in}
-use Rattle.script_run.specs.Fits.{FitLanes, AreInRange, row_origins, page_counts}
+use Rattle.script_run.specs.Fits.{FitLanes, AreInRange, share_of, shares_of, row_shares, page_counts}
 use Rattle.script_run.specs.FitsSerial.{lane_at}
 use Rattle.script_run.specs.InsideRunning.{shape_of}
 use Rattle.script_run.specs.declared.settings.Settings.{Settings}
@@ -56,6 +56,10 @@ pages_of_shape z (g ∷ gs) (suc r) = pages_of_shape z gs r
 
 -- ---- lanes
 
+same_pages : (row : List LaneSeen) → map (λ (o : Origin). o.pages) (map (λ (l : LaneSeen). l.origin) row) ≡ map (λ (o : Origin). o.pages) (map (λ (l : LaneSeen). share_of l.origin) row)
+same_pages [] = refl
+same_pages (l ∷ row) = ap (λ (ps : List ℕ). l.origin.pages ∷ ps) (same_pages row)
+
 module _ (layout : Layout) (gs : List Region) (rows : List (List LaneSeen)) (fit : FitLanes layout gs rows) where
   abbrev pages : List ℕ
   pages = page_counts layout.page_size gs
@@ -66,28 +70,30 @@ module _ (layout : Layout) (gs : List Region) (rows : List (List LaneSeen)) (fit
   pub some_row : 0 < length rows
   some_row = omega (arith, fit.stripes, layout.some_stripe)
 
-  origins_at : (s : ℕ) → s < length rows → map (λ (l : LaneSeen). l.origin) (get_or rows s []) ≡ row_origins layout.page_size (length rows) s pages
-  origins_at s below = sym (get_or-map (λ (row : List LaneSeen). map (λ (l : LaneSeen). l.origin) row) rows s [] [] below) ∙ fit.lanes s below
+  shares_at : (s : ℕ) → s < length rows → map (λ (l : LaneSeen). share_of l.origin) (get_or rows s []) ≡ row_shares layout.page_size (length rows) s pages
+  shares_at s below = sym (get_or-map (λ (row : List LaneSeen). map (λ (l : LaneSeen). share_of l.origin) row) rows s [] [] below) ∙ fit.lanes s below
 
   pub row_len : (s : ℕ) → s < length rows → length (get_or rows s []) ≡ length gs
   row_len s below =
-      sym (length-map (get_or rows s []) (λ (l : LaneSeen). l.origin))
-      ∙ ap length (origins_at s below)
+      sym (length-map (get_or rows s []) (λ (l : LaneSeen). share_of l.origin))
+      ∙ ap length (shares_at s below)
       ∙ length-map (enumerate_from 0 pages) (λ (e : ℕ × ℕ). memory_origin e.0 e.1 layout.page_size (length rows) s)
       ∙ length-enumerate_from 0 pages
       ∙ pages_count
 
-  pub lane_is : (s r : ℕ) → s < length rows → r < length gs → (lane_at rows s r).origin ≡ memory_origin r (get_or pages r 0) layout.page_size (length rows) s
+  pub lane_is : (s r : ℕ) → s < length rows → r < length gs → share_of (lane_at rows s r).origin ≡ memory_origin r (get_or pages r 0) layout.page_size (length rows) s
   lane_is s r below known =
       let region : r < length pages = omega (arith, known, pages_count) in
-      sym (get_or-map (λ (l : LaneSeen). l.origin) (get_or rows s []) r no_lane (no_lane).origin (omega (arith, row_len s below, known)))
-      ∙ ap (λ (os : List Origin). get_or os r (no_lane).origin) (origins_at s below)
+      sym (get_or-map (λ (l : LaneSeen). share_of l.origin) (get_or rows s []) r no_lane (no_lane).origin (omega (arith, row_len s below, known)))
+      ∙ ap (λ (os : List Origin). get_or os r (no_lane).origin) (shares_at s below)
       ∙ get_or-map (λ (e : ℕ × ℕ). memory_origin e.0 e.1 layout.page_size (length rows) s) (enumerate_from 0 pages) r (0, 0) (no_lane).origin (omega (arith, length-enumerate_from 0 pages, region))
       ∙ ap (λ (e : ℕ × ℕ). memory_origin e.0 e.1 layout.page_size (length rows) s) (get_or-enumerate_from 0 pages r (0, 0) region ∙ ap (λ (k : ℕ). let pair : ℕ × ℕ = (k, get_or pages r 0) in pair) (omega arith))
 
   pub pages_fit : pages_in rows ≡ pages
   pages_fit =
-      ap (λ (os : List Origin). map (λ (o : Origin). o.pages) os) (fit.lanes 0 some_row)
+      ap (λ (os : List Origin). map (λ (o : Origin). o.pages) os) (get_or-map (λ (row : List LaneSeen). map (λ (l : LaneSeen). l.origin) row) rows 0 [] [] some_row)
+      ∙ same_pages (get_or rows 0 [])
+      ∙ ap (λ (os : List Origin). map (λ (o : Origin). o.pages) os) (shares_at 0 some_row)
       ∙ origins_pages 0 layout.page_size (length rows) 0 pages
 
   -- ---- a pager may be opened over them
@@ -116,7 +122,7 @@ module _ (layout : Layout) (gs : List Region) (rows : List (List LaneSeen)) (fit
           lane_count = len ∙ sym shapes_len;
           lanes = λ r shape lane f g.
               let h = shape_at layout.page_size gs r shape (ap (λ (ss : List RegionShape). slice_get ss r) (sym shapes) ∙ f) in
-              let o : lane.origin ≡ memory_origin r (get_or pages r 0) layout.page_size (length rows) n = ap (λ (l : LaneSeen). l.origin) (sym (lane_there rows n r row lane e g)) ∙ lane_is n r below h.known in
+              let o : share_of lane.origin ≡ memory_origin r (get_or pages r 0) layout.page_size (length rows) n = ap (λ (l : LaneSeen). share_of l.origin) (sym (lane_there rows n r row lane e g)) ∙ lane_is n r below h.known in
               record {
                 region = ap (λ (x : Origin). x.region) o;
                 pages = ap (λ (x : Origin). x.pages) o ∙ h.pages;

@@ -18,7 +18,7 @@ use Rattle.workload_text.specs.Grammar.{Region}
 use Rattle.workload_text.specs.Accepted.{AllFit, regions_of}
 use Rattle.script_run.specs.Serial.{serial_text}
 use Rattle.script_run.specs.Contents.{no_lane, rows_in, pages_in, contents_of}
-use Rattle.script_run.specs.Fits.{FitLanes, page_counts}
+use Rattle.script_run.specs.Fits.{FitLanes, share_of, page_counts}
 use Rattle.script_run.specs.Replies.{Reply, nothing, begun, loaded, ok, unmapped, fault, spent, is_fault_reply}
 use Rattle.script_run.specs.FitsSerial.{Spread, spread_of, stripe_in, lane_at, region_is_told, StoresTo, AnyStoresTo, MayAnswer, AllAnswer, left, fault_count_in, counts_named, Rising, CountsFit, last_count, EndSeen, FitsSerial}
 use Rattle.script_run.specs.FitsLaws.{AllTold}
@@ -64,7 +64,7 @@ module _ (gs : List Region) (t : Spread) (told : ℕ → Bool) where
   fault_known lines regions flush_line k count done fit all m = absurd m
   fault_known lines regions (unmap_line r) k count done fit all m = absurd m
 
-  all_known : (before : List Line) (regions : List (List ℕ)) (lines : List Line) (replies : List Reply) → AllFit gs lines → KnownIn before → AllAnswer t told before regions lines replies → AllKnown gs replies
+  pub all_known : (before : List Line) (regions : List (List ℕ)) (lines : List Line) (replies : List Reply) → AllFit gs lines → KnownIn before → AllAnswer t told before regions lines replies → AllKnown gs replies
   all_known before regions [] [] fit all m = tt
   all_known before regions [] (a ∷ more) fit all m = absurd m
   all_known before regions (l ∷ ls) [] fit all m = absurd m
@@ -81,7 +81,7 @@ module _ (gs : List Region) (t : Spread) (told : ℕ → Bool) where
 
 -- ---- where no count is named, there is no fault
 
-names_one : (t : Spread) (k : Key) (count done : ℕ) → fault_count_in t (stripe_in t k) k.region (fault k count done) ≡ count ∷ []
+pub names_one : (t : Spread) (k : Key) (count done : ℕ) → fault_count_in t (stripe_in t k) k.region (fault k count done) ≡ count ∷ []
 names_one t k count done = ap (λ b. cond b (count ∷ []) []) (and_from (stripe_in t k == stripe_in t k) (k.region == k.region) (eq-eqb _ _ refl) (eq-eqb _ _ refl))
 
 none_named : (gs : List Region) (t : Spread) (replies : List Reply) → 0 < t.stripes → AllKnown gs replies → ((s r : ℕ) → s < t.stripes → r < length gs → counts_named t s r replies ≡ []) → list_any is_fault_reply replies ≡ false
@@ -116,7 +116,7 @@ zero_counts [] s r = refl
 zero_counts (st ∷ sts) zero r = zero_in st.items r
 zero_counts (st ∷ sts) (suc s) r = zero_counts sts s r
 
-from_range : (P : ℕ → Bool) (a n : ℕ) → ((i : ℕ) → a ≤ i → i < a + n → P i ≡ true) → list_all P (range_with_len a n) ≡ true
+pub from_range : (P : ℕ → Bool) (a n : ℕ) → ((i : ℕ) → a ≤ i → i < a + n → P i ≡ true) → list_all P (range_with_len a n) ≡ true
 from_range P a zero each = refl
 from_range P a (suc n) each = and_from (P a) (list_all P (range_with_len (a + 1) n)) (each a (omega arith) (omega arith)) (from_range P (a + 1) n (λ i low high. each i (omega (arith, low)) (omega (arith, high))))
 
@@ -161,7 +161,7 @@ module _ (layout : Layout) (gs : List Region) (stripes : List (ListSeen MemLane)
           let row = there rows s s_below in
           let lane = there row.0 r (omega (arith, known, row_len layout gs rows fit s s_below, ap length (get_or_from_slice_get rows s row.0 [] row.1))) in
           let is : lane_at rows s r ≡ lane.0 = lane_there rows s r row.0 lane.0 row.1 lane.1 in
-          let o : lane.0.origin ≡ memory_origin r (get_or (page_counts layout.page_size gs) r 0) layout.page_size (length rows) s = ap (λ (l : LaneSeen). l.origin) (sym is) ∙ lane_is layout gs rows fit s r s_below known in
+          let o : share_of lane.0.origin ≡ memory_origin r (get_or (page_counts layout.page_size gs) r 0) layout.page_size (length rows) s = ap (λ (l : LaneSeen). share_of l.origin) (sym is) ∙ lane_is layout gs rows fit s r s_below known in
           let has : lanes.has_page lane.0.origin page ≡ true = ap (λ (x : Origin). lanes.has_page x page) o ∙ and_from _ _ (lt-ltb page (get_or (page_counts layout.page_size gs) r 0) below) (eq-eqb _ _ refl) in
           let tells : lanes.has_page lane.0.origin page ≡ true → is_some (told_at lane.0.told page) ≡ true =
           mem_row (λ (x : List LaneSeen). slice_get x r ≡ Some lane.0 → lanes.has_page lane.0.origin page ≡ true → is_some (told_at lane.0.told page) ≡ true) stripes s row.0 row.1

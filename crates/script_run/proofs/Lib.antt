@@ -13,6 +13,8 @@ pub mod EndedOn
 pub mod SerialFits
 pub mod Journaled
 pub mod InMemory
+pub mod Counted
+pub mod Tellings
 pub mod RoomsLeft
 pub mod WithoutFaults
 pub mod Ranged

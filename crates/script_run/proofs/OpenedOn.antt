@@ -106,7 +106,7 @@ module _ (layout : Layout) (gs : List Region) (rows : List (List LaneSeen)) (fit
 
   -- ---- the pager
 
-  module _ {J : Type 0} (set : Settings) (set_layout : set.layout ≡ layout) (c : PagerConfig) (is : c ≡ record { layout = set.layout; faults = set.faults; high = set.high; low = set.low; shapes = c.shapes }) (journals : List J) (can : CanOpen c rows (length journals)) (p : PagerSeen J) (opened : IsOpened c rows journals p) (shapes : c.shapes.items ≡ map (shape_of layout.page_size) gs) (pages : has_whole_pages layout.page_size gs ≡ true) (small : (r : ℕ) → size_at gs r ≤ 16777216) where
+  module _ {J : Type 0} (set : Settings) (set_layout : set.layout ≡ layout) (c : PagerConfig) (is : c ≡ record { layout = set.layout; faults = set.faults; high = set.high; low = set.low; shapes = c.shapes }) (journals : List J) (can : CanOpen c rows (length journals)) (p : PagerSeen J) (opened : IsOpened c rows journals p) (shapes : c.shapes.items ≡ map (shape_of layout.page_size) gs) (pages : has_whole_pages layout.page_size gs ≡ true) (small : (r : ℕ) → size_at gs r ≤ 1099511627776) where
     same : c.layout ≡ layout
     same = ap (λ (x : PagerConfig). x.layout) is ∙ set_layout
 

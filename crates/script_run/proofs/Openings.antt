@@ -9,7 +9,7 @@ use Rattle.store_trait.specs.Memory.{memory_origin}
 use Rattle.workload_text.specs.Line.{Line, map_line, script_line, load_line, store_line, prefetch_line, flush_line, unmap_line}
 use Rattle.workload_text.specs.Grammar.{Region, size_at}
 use Rattle.workload_text.specs.Accepted.{AllFit, regions_of}
-use Rattle.workload_text.specs.Built.{is_built}
+use Rattle.workload_text.specs.Built.{is_in_memory}
 use Rattle.script_run.specs.Fits.{page_counts, has_whole_pages}
 
 -- the pages of a row of origins
@@ -28,16 +28,30 @@ sizes_whole z [] whole r below = absurd (omega arith)
 sizes_whole z (g ∷ gs) whole zero below = omega (arith, div-add-mod' g.size z, eqb-true (g.size % z) 0 (and_parts _ _ whole).0)
 sizes_whole z (g ∷ gs) whole (suc r) below = sizes_whole z gs (and_parts _ _ whole).1 r (omega arith)
 
--- no region of lines that are built is large
-pub sizes_small : (gs : List Region) (ls : List Line) → is_built ls ≡ true → AllFit gs ls → (r : ℕ) → size_at (regions_of ls) r ≤ 16777216
-sizes_small gs [] built fit r = omega arith
-sizes_small gs (map_line name in_memory size writable ∷ ls) built fit zero = fit.0.most
-sizes_small gs (map_line name in_memory size writable ∷ ls) built fit (suc r) = sizes_small gs ls built fit.1 r
-sizes_small gs (map_line name (in_file path) size writable ∷ ls) built fit r = absurd (cc built)
-sizes_small gs (map_line name (in_files path file) size writable ∷ ls) built fit r = absurd (cc built)
-sizes_small gs (script_line name ∷ ls) built fit r = sizes_small gs ls built fit.1 r
-sizes_small gs (load_line q off len ∷ ls) built fit r = sizes_small gs ls built fit.1 r
-sizes_small gs (store_line q off bytes ∷ ls) built fit r = sizes_small gs ls built fit.1 r
-sizes_small gs (prefetch_line q off len ∷ ls) built fit r = absurd (cc built)
-sizes_small gs (flush_line ∷ ls) built fit r = absurd (cc built)
-sizes_small gs (unmap_line q ∷ ls) built fit r = absurd (cc built)
+-- no region is larger than may be kept
+pub sizes_kept : (gs : List Region) (ls : List Line) → AllFit gs ls → (r : ℕ) → size_at (regions_of ls) r ≤ 1099511627776
+sizes_kept gs [] fit r = omega arith
+sizes_kept gs (map_line name in_memory size writable ∷ ls) fit zero = omega (arith, fit.0.most)
+sizes_kept gs (map_line name (in_file path) size writable ∷ ls) fit zero = fit.0.most
+sizes_kept gs (map_line name (in_files path file) size writable ∷ ls) fit zero = fit.0.most
+sizes_kept gs (map_line name backing size writable ∷ ls) fit (suc r) = sizes_kept gs ls fit.1 r
+sizes_kept gs (script_line name ∷ ls) fit r = sizes_kept gs ls fit.1 r
+sizes_kept gs (load_line q off len ∷ ls) fit r = sizes_kept gs ls fit.1 r
+sizes_kept gs (store_line q off bytes ∷ ls) fit r = sizes_kept gs ls fit.1 r
+sizes_kept gs (prefetch_line q off len ∷ ls) fit r = sizes_kept gs ls fit.1 r
+sizes_kept gs (flush_line ∷ ls) fit r = sizes_kept gs ls fit.1 r
+sizes_kept gs (unmap_line q ∷ ls) fit r = sizes_kept gs ls fit.1 r
+
+-- no region in memory is large
+pub sizes_small : (gs : List Region) (ls : List Line) → is_in_memory ls ≡ true → AllFit gs ls → (r : ℕ) → size_at (regions_of ls) r ≤ 16777216
+sizes_small gs [] memory fit r = omega arith
+sizes_small gs (map_line name in_memory size writable ∷ ls) memory fit zero = fit.0.most
+sizes_small gs (map_line name in_memory size writable ∷ ls) memory fit (suc r) = sizes_small gs ls memory fit.1 r
+sizes_small gs (map_line name (in_file path) size writable ∷ ls) memory fit r = absurd (cc memory)
+sizes_small gs (map_line name (in_files path file) size writable ∷ ls) memory fit r = absurd (cc memory)
+sizes_small gs (script_line name ∷ ls) memory fit r = sizes_small gs ls memory fit.1 r
+sizes_small gs (load_line q off len ∷ ls) memory fit r = sizes_small gs ls memory fit.1 r
+sizes_small gs (store_line q off bytes ∷ ls) memory fit r = sizes_small gs ls memory fit.1 r
+sizes_small gs (prefetch_line q off len ∷ ls) memory fit r = sizes_small gs ls memory fit.1 r
+sizes_small gs (flush_line ∷ ls) memory fit r = sizes_small gs ls memory fit.1 r
+sizes_small gs (unmap_line q ∷ ls) memory fit r = sizes_small gs ls memory fit.1 r

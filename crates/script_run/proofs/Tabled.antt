@@ -1,5 +1,6 @@
 -- The table of a workload's regions, and its regions by their lines.
 use Rattle.std.proofs.Common.{◌≡◌, ℕ, zero, suc, ◌+◌, ◌/◌, ◌<◌, ◌≤◌, true, List, [], ◌∷◌, length, map, sum, slice_index, refl, ap, ◌∙◌, arith}
+use Rattle.std.proofs.lemmas.Bool.{and_parts}
 use Rattle.std.proofs.lemmas.List.Sums.{sum-map}
 use Rattle.page_base.specs.Backings.{in_memory, in_file, in_files}
 use Rattle.page_base.specs.declared.keys.RegionShape.{RegionShape}
@@ -8,7 +9,7 @@ use Rattle.serial_pager.specs.Pagers.{PagerSeen}
 use Rattle.workload_text.specs.Line.{Line, map_line, script_line, load_line, store_line, prefetch_line, flush_line, unmap_line}
 use Rattle.workload_text.specs.Grammar.{size_at}
 use Rattle.workload_text.specs.Accepted.{regions_of}
-use Rattle.workload_text.specs.Built.{is_built}
+use Rattle.workload_text.specs.Built.{is_built, is_built_line}
 use Rattle.script_run.specs.Fits.{page_counts}
 use Rattle.script_run.specs.Tables.{regions_seen, table_of}
 use Rattle.script_run.specs.InsideRanges.{IsListed}
@@ -36,11 +37,11 @@ size_is z (prefetch_line n off len ∷ ls) r = size_is z ls r
 size_is z (flush_line ∷ ls) r = size_is z ls r
 size_is z (unmap_line n ∷ ls) r = size_is z ls r
 
--- regions in memory alone
+-- no region lies in a folder of files
 pub shapes_are : (z : ℕ) (lines : List Line) → is_built lines ≡ true → shapes_of (table_of z lines) ≡ map (shape_of z) (regions_of lines)
 shapes_are z [] h = refl
 shapes_are z (map_line name in_memory size writable ∷ ls) h = ap (λ (ss : List RegionShape). record { pages = size / z; group = 1; writable = writable } ∷ ss) (shapes_are z ls h)
-shapes_are z (map_line name (in_file path) size writable ∷ ls) h = absurd (cc)
+shapes_are z (map_line name (in_file path) size writable ∷ ls) h = ap (λ (ss : List RegionShape). record { pages = size / z; group = 1; writable = writable } ∷ ss) (shapes_are z ls (and_parts (is_built_line (map_line name (in_file path) size writable)) (is_built ls) h).1)
 shapes_are z (map_line name (in_files path file) size writable ∷ ls) h = absurd (cc)
 shapes_are z (script_line name ∷ ls) h = shapes_are z ls h
 shapes_are z (load_line n off len ∷ ls) h = shapes_are z ls h

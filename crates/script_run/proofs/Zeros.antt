@@ -18,18 +18,19 @@ use Rattle.store_trait.specs.declared.mem_lane.MemLane.{MemLane}
 use Rattle.workload_text.specs.Line.{Line, map_line, script_line, load_line, store_line, prefetch_line, flush_line, unmap_line}
 use Rattle.workload_text.specs.Grammar.{Region, size_at}
 use Rattle.workload_text.specs.Accepted.{AllFit, regions_of}
-use Rattle.workload_text.specs.Built.{is_built}
+use Rattle.workload_text.specs.Built.{is_in_memory}
 use Rattle.workload_text.specs.View.{region, region_line, command_line, script_lines, lines_of}
 use Rattle.workload_text.specs.declared.workload.MapLine.{MapLine}
 use Rattle.workload_text.specs.declared.workload.Command.{Command}
 use Rattle.workload_text.specs.declared.workload.Command.TheVariants.{Load, Store, Prefetch, Flush, Unmap}
 use Rattle.workload_text.specs.declared.workload.Script.{Script}
 use Rattle.workload_text.specs.declared.workload.Workload.{Workload}
-use Rattle.script_run.specs.Contents.{joined, contents_by, contents_of, page_told, rows_in, pages_in, origins_of, no_lane}
-use Rattle.script_run.specs.Fits.{FitLanes, has_whole_pages, page_counts, row_origins}
+use Rattle.script_run.specs.Contents.{joined, contents_by, contents_of, page_told, rows_in, pages_in, no_lane}
+use Rattle.script_run.specs.Fits.{FitLanes, has_whole_pages, page_counts, share_of, shares_of, row_shares}
 use Rattle.script_run.specs.InsideZeros.{AreSmall, PutsLanes, AreZeroRows, zero_lane, zero_row}
 use Rattle.script_run.proofs.Contents.{joined-same}
-use Rattle.script_run.proofs.Openings.{item_at, origins_pages, sizes_small}
+use Rattle.script_run.proofs.FittedLanes.{pages_fit}
+use Rattle.script_run.proofs.Openings.{item_at, sizes_small}
 use Rattle.script_run.proofs.Streaming.{take_take_drop}
 use Rattle.script_run.proofs.Lists.{told_of_page}
 
@@ -62,30 +63,30 @@ joined-page_of size (suc n) xs fits =
     ∙ take_take_drop (n * size) size xs (omega arith)
     ∙ ap (λ (k : ℕ). take k xs) (omega arith)
 
--- ---- the regions of lines that are built are small
+-- ---- regions in memory are small
 
-sized : (z : ℕ) (gs : List Region) (ls : List Line) → is_built ls ≡ true → AllFit gs ls → (r : ℕ) → r < length (regions_of ls) → 1 ≤ size_at (regions_of ls) r
-sized z gs [] built fit r below = absurd (omega arith)
-sized z gs (map_line name in_memory size writable ∷ ls) built fit zero below = fit.0.least
-sized z gs (map_line name in_memory size writable ∷ ls) built fit (suc r) below = sized z gs ls built fit.1 r (omega arith)
-sized z gs (map_line name (in_file path) size writable ∷ ls) built fit r below = absurd (cc built)
-sized z gs (map_line name (in_files path file) size writable ∷ ls) built fit r below = absurd (cc built)
-sized z gs (script_line name ∷ ls) built fit r below = sized z gs ls built fit.1 r below
-sized z gs (load_line q off len ∷ ls) built fit r below = sized z gs ls built fit.1 r below
-sized z gs (store_line q off bytes ∷ ls) built fit r below = sized z gs ls built fit.1 r below
-sized z gs (prefetch_line q off len ∷ ls) built fit r below = absurd (cc built)
-sized z gs (flush_line ∷ ls) built fit r below = absurd (cc built)
-sized z gs (unmap_line q ∷ ls) built fit r below = absurd (cc built)
+sized : (z : ℕ) (gs : List Region) (ls : List Line) → is_in_memory ls ≡ true → AllFit gs ls → (r : ℕ) → r < length (regions_of ls) → 1 ≤ size_at (regions_of ls) r
+sized z gs [] memory fit r below = absurd (omega arith)
+sized z gs (map_line name in_memory size writable ∷ ls) memory fit zero below = fit.0.least
+sized z gs (map_line name in_memory size writable ∷ ls) memory fit (suc r) below = sized z gs ls memory fit.1 r (omega arith)
+sized z gs (map_line name (in_file path) size writable ∷ ls) memory fit r below = absurd (cc memory)
+sized z gs (map_line name (in_files path file) size writable ∷ ls) memory fit r below = absurd (cc memory)
+sized z gs (script_line name ∷ ls) memory fit r below = sized z gs ls memory fit.1 r below
+sized z gs (load_line q off len ∷ ls) memory fit r below = sized z gs ls memory fit.1 r below
+sized z gs (store_line q off bytes ∷ ls) memory fit r below = sized z gs ls memory fit.1 r below
+sized z gs (prefetch_line q off len ∷ ls) memory fit r below = sized z gs ls memory fit.1 r below
+sized z gs (flush_line ∷ ls) memory fit r below = sized z gs ls memory fit.1 r below
+sized z gs (unmap_line q ∷ ls) memory fit r below = sized z gs ls memory fit.1 r below
 
 whole_at : (z : ℕ) (gs : List Region) → has_whole_pages z gs ≡ true → (r : ℕ) → r < length gs → size_at gs r ≡ size_at gs r / z * z
 whole_at z [] pages r below = absurd (omega arith)
 whole_at z (g ∷ gs) pages zero below = omega (arith, div-add-mod' g.size z, eqb-true (g.size % z) 0 (and_parts _ _ pages).0)
 whole_at z (g ∷ gs) pages (suc r) below = whole_at z gs (and_parts _ _ pages).1 r (omega arith)
 
-pub regions_small : (z : ℕ) (ls : List Line) → is_built ls ≡ true → AllFit (regions_of ls) ls → has_whole_pages z (regions_of ls) ≡ true → AreSmall z (regions_of ls)
-regions_small z ls built fit pages = record {
-  some = λ r below. sized z (regions_of ls) ls built fit r below;
-  most = λ r below. sizes_small (regions_of ls) ls built fit r;
+pub regions_small : (z : ℕ) (ls : List Line) → is_in_memory ls ≡ true → AllFit (regions_of ls) ls → has_whole_pages z (regions_of ls) ≡ true → AreSmall z (regions_of ls)
+regions_small z ls memory fit pages = record {
+  some = λ r below. sized z (regions_of ls) ls memory fit r below;
+  most = λ r below. sizes_small (regions_of ls) ls memory fit r;
   whole = λ r below. whole_at z (regions_of ls) pages r below;
 }
 
@@ -124,9 +125,9 @@ rows_more z n i gs g lanes old new below is are rows puts = record {
       ∙ ap (zero_row z n s 0) (ap (λ (x : Region). take i gs ++ x ∷ []) is ∙ sym (take_more gs i g below));
 }
 
-zero_row-origins : (z n s k : ℕ) (gs : List Region) → map (λ (l : LaneSeen). l.origin) (zero_row z n s k gs) ≡ map (λ (e : ℕ × ℕ). memory_origin e.0 e.1 z n s) (enumerate_from k (page_counts z gs))
-zero_row-origins z n s k [] = refl
-zero_row-origins z n s k (g ∷ gs) = ap (λ (os : List Origin). memory_origin k (g.size / z) z n s ∷ os) (zero_row-origins z n s (k + 1) gs)
+zero_row-shares : (z n s k : ℕ) (gs : List Region) → map (λ (l : LaneSeen). share_of l.origin) (zero_row z n s k gs) ≡ map (λ (e : ℕ × ℕ). memory_origin e.0 e.1 z n s) (enumerate_from k (page_counts z gs))
+zero_row-shares z n s k [] = refl
+zero_row-shares z n s k (g ∷ gs) = ap (λ (os : List Origin). memory_origin k (g.size / z) z n s ∷ os) (zero_row-shares z n s (k + 1) gs)
 
 zero_row-at : (z n s k r : ℕ) (gs : List Region) (g : Region) → r < length gs → get_or (zero_row z n s k gs) r no_lane ≡ zero_lane z n s (k + r) (get_or gs r g)
 zero_row-at z n s k r [] g below = absurd (omega arith)
@@ -151,24 +152,24 @@ zeros_from k (g ∷ gs) z page pages told =
     ∙ ap (λ (xs : List (List ℕ)). replicate g.size 0 ∷ xs) rest
 
 module _ (layout : Layout) (gs : List Region) (rows : List (List LaneSeen)) (pages : has_whole_pages layout.page_size gs ≡ true) (are : AreZeroRows layout.page_size layout.stripes gs rows) where
-  origins_are : (s : ℕ) → s < length rows → get_or (origins_of rows) s [] ≡ row_origins layout.page_size layout.stripes s (page_counts layout.page_size gs)
-  origins_are s below =
-      get_or-map (λ (row : List LaneSeen). map (λ (l : LaneSeen). l.origin) row) rows s [] [] below
-      ∙ ap (λ (row : List LaneSeen). map (λ (l : LaneSeen). l.origin) row) (are.each s (omega (arith, are.count)))
-      ∙ zero_row-origins layout.page_size layout.stripes s 0 gs
+  shares_are : (s : ℕ) → s < length rows → get_or (shares_of rows) s [] ≡ row_shares layout.page_size layout.stripes s (page_counts layout.page_size gs)
+  shares_are s below =
+      get_or-map (λ (row : List LaneSeen). map (λ (l : LaneSeen). share_of l.origin) row) rows s [] [] below
+      ∙ ap (λ (row : List LaneSeen). map (λ (l : LaneSeen). share_of l.origin) row) (are.each s (omega (arith, are.count)))
+      ∙ zero_row-shares layout.page_size layout.stripes s 0 gs
 
   pub zeros_fit : FitLanes layout gs rows
   zeros_fit = record {
     stripes = are.count;
     whole = pages;
-    lanes = λ s below. origins_are s below ∙ ap (λ (n : ℕ). row_origins layout.page_size n s (page_counts layout.page_size gs)) (sym are.count);
+    lanes = λ s below. shares_are s below ∙ ap (λ (n : ℕ). row_shares layout.page_size n s (page_counts layout.page_size gs)) (sym are.count);
   }
 
   some_row : 0 < length rows
   some_row = omega (arith, are.count, layout.some_stripe)
 
   pages_are : pages_in rows ≡ page_counts layout.page_size gs
-  pages_are = ap (λ (os : List Origin). map (λ (o : Origin). o.pages) os) (origins_are 0 some_row) ∙ origins_pages 0 layout.page_size layout.stripes 0 (page_counts layout.page_size gs)
+  pages_are = pages_fit layout gs rows zeros_fit
 
   told_are : (r p : ℕ) (g : Region) → r < length gs → get_or gs r g ≡ g → p < g.size / layout.page_size → page_told rows (0 + r) p ≡ page_bytes layout.page_size (replicate g.size 0) p
   told_are r p g below is inside =

@@ -28,7 +28,7 @@ module _ {J : Type 0} where
   -- the range lies in the region, and the pager has pieces left for it
   pub record IsRange (p : PagerSeen J) (region off len : ℕ) : Type 0 where
     pub inside : off + len ≤ pages_at p region * p.page_size
-    pub near : off + len ≤ 2 ^ 32
+    pub near : off + len ≤ 2 ^ 40
     pub few : p.spent + len ≤ 2 ^ 44
 
   -- the region's pages hold these bytes, one page after another

@@ -12,7 +12,7 @@ use Rattle.region_table.specs.Regions.{TableSeen}
 use Rattle.serial_pager.specs.Seen.{StripeSeen}
 use Rattle.serial_pager.specs.Pagers as pagers
 use Rattle.serial_pager.specs.Pagers.{PagerSeen, core_at, owes, count_at, IsSame, WentAll}
-use Rattle.workload_text.specs.declared.limits.TheConstants.{MOST_MEMORY_BYTES, MOST_ACCESS_BYTES, MOST_LOADED_BYTES}
+use Rattle.workload_text.specs.declared.limits.TheConstants.{MOST_STORED_BYTES, MOST_ACCESS_BYTES, MOST_LOADED_BYTES}
 use Rattle.workload_text.specs.Line.{Line}
 use Rattle.workload_text.specs.View.{lines_of, command_line}
 use Rattle.workload_text.specs.declared.workload.Command.{Command}
@@ -49,7 +49,7 @@ module _ {J : Type 0} where
     pub stripes : length p.stripes ≡ t.stripes
     pub shapes : p.shapes ≡ map (shape_of t.page_size) gs
     pub whole : (r : ℕ) → r < length gs → size_at gs r ≡ pages_at p r * p.page_size
-    pub small : (r : ℕ) → size_at gs r ≤ MOST_MEMORY_BYTES
+    pub small : (r : ℕ) → size_at gs r ≤ MOST_STORED_BYTES
 
   -- the lines may run: they are built, their ranges lie inside the regions, and there is room for what they answer
   pub record MayRun (t : Spread) (gs : List Region) (lines : List Line) (replies : Replies) (p : PagerSeen J) : Type 0 where

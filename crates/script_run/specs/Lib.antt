@@ -5,13 +5,13 @@ pub mod Fits
 pub mod Tables
 pub mod RegionRules
 pub mod InsideZeros
-pub mod Streams
 pub mod InsideRooms
 pub mod Replies
 pub mod FitsSerial
 pub mod LineEntries
 pub mod FitsJournals
 pub mod FitsLaws
+pub mod Tellings
 pub mod InsideRanges
 pub mod InsideRunning
 pub mod Ends

@@ -1,6 +1,7 @@
 //! What follows from the meaning of a run, and from that of its regions. Each function does nothing: its contract is
 //! the law.
 ghost use Rattle.script_run.specs.FitsLaws.{WithoutFaults, MemoryRunsAreSerial, RegionsAreMaps};
+ghost use Rattle.script_run.specs.Tellings.{ToldIsHeld, FlagIsCounted};
 
 /// A run that isn't flagged answers the serial text and leaves the serial contents, where all is told.
 pub fn without_faults()
@@ -15,4 +16,14 @@ pub fn memory_runs_are_serial()
 /// The regions of a workload's lines are those of its `map` lines.
 pub fn regions_are_maps()
     ensures { RegionsAreMaps }
+{}
+
+/// Lanes that tell the bytes of a region, page by page, hold them.
+pub fn told_is_held()
+    ensures { ToldIsHeld }
+{}
+
+/// In a run that is flagged the count of some lane rose.
+pub fn faults_are_counted()
+    ensures { FlagIsCounted }
 {}

@@ -4,8 +4,7 @@
 //! thread. `serial` says what a run may answer and leave where the stores' calls may fail, by `specs/FitsSerial.antt`; where
 //! none failed, that is the serial meaning of `specs/Serial.antt`, whatever page size, buffer, watermarks and stripes are set.
 //! It also says what the journals of the stripes have noted then, by `specs/FitsJournals.antt`. Beside it stand what a run is
-//! made of: its settings, the table of a workload's regions, the lanes of regions in memory, and the streams that input comes
-//! from and output goes to.
+//! made of: its settings, the table of a workload's regions, and the lanes of regions in memory.
 #![tactic(auto)]
 
 mod access;
@@ -17,8 +16,6 @@ mod replies;
 mod rooms;
 mod serial_run;
 mod settings;
-mod sink;
-mod source;
 
 pub use memory::memory_lanes;
 pub use regions::{RegionKind, RegionRefusal, TableFault, table_of_maps};
@@ -27,5 +24,3 @@ pub use settings::{
     DEFAULT_AHEAD, DEFAULT_EVICTORS, DEFAULT_FAULTS, DEFAULT_FILLERS, DEFAULT_FRAMES, DEFAULT_HIGH,
     DEFAULT_LOW, DEFAULT_PAGE_SIZE, DEFAULT_STRIPES, Settings,
 };
-pub use sink::{FailingWrite, MemSink, Sink, SinkFault, StdSink};
-pub use source::{MemSource, Source, SourceFault, StdSource};

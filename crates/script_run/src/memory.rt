@@ -4,7 +4,7 @@ ghost use Rattle.page_base.specs.declared.limits.TheConstants.{MOST_REGIONS};
 ghost use Rattle.store_trait.specs.MemLanes.{lane_seen};
 ghost use Rattle.workload_text.specs.declared.limits.TheConstants.{MOST_MEMORY_BYTES};
 ghost use Rattle.workload_text.specs.View.{region, lines_of};
-ghost use Rattle.workload_text.specs.Built.{is_built};
+ghost use Rattle.workload_text.specs.Built.{is_in_memory};
 ghost use Rattle.workload_text.specs.Accepted.{IsRunnable, regions_of};
 ghost use Rattle.script_run.specs.Serial.{zeros_of};
 ghost use Rattle.script_run.specs.Contents.{rows_in, rows_seen, contents_of};
@@ -105,7 +105,7 @@ pub fn memory_lanes(
     workload: &Workload,
 ) -> Result<LaneSet<MemLane>, OutOfMemory>
     requires runnable { IsRunnable (lines_of workload.now) }
-    requires built { is_built (lines_of workload.now) ≡ true }
+    requires memory { is_in_memory (lines_of workload.now) ≡ true }
     requires whole { has_whole_pages settings.now.layout.page_size (regions_of (lines_of workload.now)) ≡ true }
     ensures fit { IfOk result (λ lanes. LanesFit settings.now (lines_of workload.now) (rows_seen lanes)) }
     ensures zeros { IfOk result (λ lanes. contents_of (rows_seen lanes) ≡ zeros_of (lines_of workload.now)) }

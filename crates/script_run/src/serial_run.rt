@@ -12,6 +12,7 @@ ghost use Rattle.script_run.specs.Ends.{lanes_in, origins_in, FitsRun};
 ghost use Rattle.script_run.specs.InsideRooms.{fault_room, fault_of};
 ghost use Rattle.script_run.specs.InsideRunning.{MayRunOf, RanOf, RanOne, RanAll};
 ghost use Rattle.script_run.specs.Tables.{table_of};
+ghost use Rattle.script_run.specs.Tellings.{EndsTold};
 
 use crate::access::{load, store};
 use crate::opening::{open_pager, put_journals};
@@ -168,6 +169,7 @@ pub fn serial<S: Store, J: Journal>(
     requires empty { (s : ℕ) (journal : J) → slice_get journals.old.items s ≡ Some journal → J.has_noted journal [] }
     // what the lines answer and leave, and what the journals have noted of it
     ensures fits { IfOk result (λ e. FitsRun S.seen J.has_noted settings.now table workload.now lanes e journals.new) }
+    ensures told { IfOk result (λ e. EndsTold S.seen settings.now workload.now lanes e) }
     ensures origins { IfOk result (λ e. origins_in S.seen e.lanes ≡ origins_in S.seen lanes) }
     ensures journals { IfOk result (λ e. map J.made_with journals.new.items ≡ map J.made_with journals.old.items) }
     ensures back { IfErr result (λ back. rows_of S.seen (lanes_in back) ≡ rows_of S.seen lanes) }

@@ -9,6 +9,8 @@ mod folders;
 #[cfg(test)]
 mod lanes;
 #[cfg(test)]
+mod limits;
+#[cfg(test)]
 mod one_stripe;
 #[cfg(test)]
 mod pager;

@@ -3,7 +3,7 @@ ghost use Rattle.std.specs.Prelude.{◌≡◌, ℕ, [], length, slice_get, Some,
 ghost use Rattle.serial_pager.specs.Pagers.{rows_of};
 ghost use Rattle.store_trait.specs.MemLanes.{lane_seen};
 ghost use Rattle.workload_text.specs.Accepted.{IsRunnable, regions_of};
-ghost use Rattle.workload_text.specs.Built.{is_built};
+ghost use Rattle.workload_text.specs.Built.{is_built, is_in_memory};
 ghost use Rattle.workload_text.specs.View.{lines_of};
 ghost use Rattle.script_run.specs.Ends.{origins_in};
 ghost use Rattle.script_run.specs.Fits.{AreInRange, has_whole_pages};
@@ -21,7 +21,7 @@ use std::alloc::Global;
 use std::process::Abort;
 use std::test::Fail;
 use store_trait::{FailLane, LaneSet, MemLane, Store};
-use workload_text::{Workload, is_built, parse};
+use workload_text::{Workload, is_built, is_in_memory, parse};
 
 /// A workload that may run, and the table of its regions.
 struct Accepted {
@@ -33,13 +33,14 @@ struct Accepted {
 fn accept(alloc: Global, layout: &Layout, text: &str) -> Result<Accepted, Fail>
     ensures runnable { IfOk result (λ a. IsRunnable (lines_of a.workload)) }
     ensures built { IfOk result (λ a. is_built (lines_of a.workload) ≡ true) }
+    ensures memory { IfOk result (λ a. is_in_memory (lines_of a.workload) ≡ true) }
     ensures table { IfOk result (λ a. a.table ≡ table_of layout.now.page_size (lines_of a.workload)) }
     ensures whole { IfOk result (λ a. has_whole_pages layout.now.page_size (regions_of (lines_of a.workload)) ≡ true) }
 {
     regions_are_maps();
     let parsed = parse(alloc, text.as_bytes())?;
-    if !is_built(&parsed.workload) {
-        return Err(Fail::new(format_args!("not built: {text}")));
+    if !is_built(&parsed.workload) || !is_in_memory(&parsed.workload) {
+        return Err(Fail::new(format_args!("not built or not in memory: {text}")));
     }
     let maps = parsed.workload.maps.as_slice();
     let lines = parsed.map_lines.as_slice();

@@ -3,7 +3,7 @@
 use page_base::OutOfMemory;
 use std::alloc::{AllocError, Global};
 use std::test::Fail;
-use workload_text::{Command, TextFault, TextKind, is_built, parse};
+use workload_text::{Command, TextFault, TextKind, is_built, is_in_memory, parse};
 
 /// A text given as pieces, each so many times.
 type Pieces = &'static [(&'static str, usize)];
@@ -334,20 +334,24 @@ fn sixty_four_regions_and_scripts_may_begin(rt: HostRuntime) -> Result<(), Fail>
 }
 
 #[test]
-fn regions_in_memory_loads_and_stores_are_built(rt: HostRuntime) -> Result<(), Fail> {
-    for (text, built) in [
+fn regions_in_memory_or_a_file_loads_and_stores_are_built(rt: HostRuntime) -> Result<(), Fail> {
+    for (text, built, memory) in [
         (
             "map A memory 64 rw\nmap B memory 64 ro\nscript s\nload B 0 1\nstore A 0 00\n",
+            true,
             true,
         ),
         (
             "map A memory 64 rw\nscript s\nload A 0 1\nscript t\nflush\n",
             false,
+            true,
         ),
-        ("map A memory 64 rw\nmap B file f 64 rw\n", false),
+        ("map A memory 64 rw\nmap B file f 64 rw\n", true, false),
+        ("map A sparse d 64 64 rw\n", false, false),
     ] {
         let parsed = parse(rt.alloc(), text.as_bytes())?;
         assert_eq!(rt; is_built(&parsed.workload), built, "{text}");
+        assert_eq!(rt; is_in_memory(&parsed.workload), memory, "{text}");
     }
     Ok(())
 }

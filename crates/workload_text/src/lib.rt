@@ -26,4 +26,6 @@ pub use crate::limits::{
 };
 pub use crate::refusal::{TextFault, TextKind};
 pub use crate::text::parse;
-pub use crate::workload::{Command, MapLine, Parsed, Script, StoreKind, Workload, is_built};
+pub use crate::workload::{
+    Command, MapLine, Parsed, Script, StoreKind, Workload, is_built, is_in_memory,
+};

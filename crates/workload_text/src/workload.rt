@@ -5,7 +5,7 @@
 ghost use Rattle.std.specs.Prelude.{◌≡◌};
 ghost use Rattle.std.specs.List.{list_all};
 ghost use Rattle.workload_text.specs.View.{lines_of, command_line, region_line};
-ghost use Rattle.workload_text.specs.Built.{is_built, is_built_line};
+ghost use Rattle.workload_text.specs.Built.{is_built, is_built_line, is_in_memory, is_memory_line};
 
 use page_base::{Bytes, List};
 
@@ -64,7 +64,7 @@ pub struct Parsed {
 fn is_built_region(map: &MapLine) -> bool
     ensures { result ≡ is_built_line (region_line map.now) }
 {
-    matches!(&map.kind, StoreKind::Memory)
+    matches!(&map.kind, StoreKind::Memory | StoreKind::File { path: _ })
 }
 
 fn is_built_command(command: &Command) -> bool
@@ -105,9 +105,28 @@ fn are_built_scripts(scripts: &[Script]) -> bool
         .all(|script| are_built_commands(script.commands.as_slice()))
 }
 
-/// Whether the program can run the workload so far: regions in memory, loads and stores alone.
+/// Whether the program can run the workload so far: regions in memory or in one file each, loads and stores alone.
 pub fn is_built(workload: &Workload) -> bool
     ensures { result ≡ is_built (lines_of workload.now) }
 {
     are_built_regions(workload.maps.as_slice()) && are_built_scripts(workload.scripts.as_slice())
+}
+
+fn is_memory_region(map: &MapLine) -> bool
+    ensures { result ≡ is_memory_line (region_line map.now) }
+{
+    matches!(&map.kind, StoreKind::Memory)
+}
+
+fn are_memory_regions(maps: &[MapLine]) -> bool
+    ensures { result ≡ list_all (λ m. is_memory_line (region_line m)) maps.now }
+{
+    maps.iter().all(|map| is_memory_region(map))
+}
+
+/// Whether all regions of the workload are in memory.
+pub fn is_in_memory(workload: &Workload) -> bool
+    ensures { result ≡ is_in_memory (lines_of workload.now) }
+{
+    are_memory_regions(workload.maps.as_slice())
 }

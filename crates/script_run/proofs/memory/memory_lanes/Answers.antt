@@ -22,7 +22,7 @@ zero_rows-requires-clause-small c =
     let z = c.args.settings.now.layout.page_size in
     let can = c.requires.runnable in
     subst (λ (ms : List MapLine). AreSmall z (map region ms)) (sym c.as_slice.ensures)
-    (subst (AreSmall z) (regions_are w) (regions_small z (lines_of w) c.requires.built can.fit c.requires.whole))
+    (subst (AreSmall z) (regions_are w) (regions_small z (lines_of w) c.requires.memory can.fit c.requires.whole))
 
 rows_are : (z n : _) (gs : List Region) (ms : List MapLine) (slice : List MapLine) (rows stripes : List (ListSeen MemLane)) → gs ≡ map region ms → slice ≡ ms → stripes ≡ rows → AreZeroRows z n (map region slice) (rows_in rows) → AreZeroRows z n gs (rows_in stripes)
 rows_are z n gs ms slice rows stripes e f h are =

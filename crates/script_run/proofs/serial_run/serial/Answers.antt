@@ -1,5 +1,7 @@
-use Rattle.std.proofs.Common.{[], map, refl, sym, ap, subst, ◌∙◌, arith}
+use Rattle.std.proofs.Common.{◌≡◌, [], ◌++◌, length, map, refl, sym, ap, subst, ◌∙◌, arith}
 use Rattle.std.proofs.lemmas.Simd.{map-map}
+use Rattle.histories.specs.Histories.{by}
+use Rattle.region_table.specs.Regions.{TableSeen, shapes_of}
 use Rattle.workload_text.specs.View.{lines_of}
 use Rattle.workload_text.specs.Accepted.{regions_of}
 use Rattle.serial_pager.specs.Pagers.{rows_of}
@@ -9,6 +11,9 @@ use Rattle.script_run.specs.InsideRunning.{MayOpen, OpensOn, Ran}
 use Rattle.script_run.specs.Tables.{table_of}
 use Rattle.script_run.proofs.SerialFits.{may_run, run_origins, fits_serial}
 use Rattle.script_run.proofs.Journaled.{fits_journals}
+use Rattle.script_run.proofs.FittedLanes.{whole_rows}
+use Rattle.script_run.proofs.Tabled.{as_many, shapes_are}
+use Rattle.script_run.proofs.Tellings.{stay_told}
 use Rattle.script_run.proofs.serial_run.serial.Goals as goal
 
 pub open_pager-requires : goal.open_pager-requires
@@ -103,3 +108,18 @@ returns-clause-journals g c =
     ∙ c.run_scripts.ensures.journals
     ∙ sym (map-map g.J.Journal.made_with (λ x. x.journal) p.stripes)
     ∙ ap (map g.J.Journal.made_with) opens.journals_are
+
+pub returns-clause-told : goal.returns-clause-told
+returns-clause-told g c =
+    let lines = lines_of c.args.workload.now in
+    let set = c.args.settings.now in
+    let ended = returns-clause-fits g c in
+    let journals = ended.1 in
+    let table = c.args.table in
+    let shapes = ap shapes_of c.requires.table ∙ shapes_are set.layout.page_size lines c.requires.built in
+    let many : length table.regions ≡ length (regions_of lines) = ap (λ (t : TableSeen). length t.regions) c.requires.table ∙ as_many lines in
+    stay_told set (regions_of lines) (rows_of g.S.Store.seen c.args.lanes) (rows_of g.S.Store.seen c.into_parts-lanes.result.0) c.requires.lanes
+    (whole_rows g.S.Store.seen (λ x page. g.met.S.Store.whole_pages x page) c.args.lanes.stripes.items)
+    (whole_rows g.S.Store.seen (λ x page. g.met.S.Store.whole_pages x page) c.into_parts-lanes.result.0.stripes.items)
+    (returns-clause-origins g c) (shapes_of table) shapes (λ s. by 0 (journals.last s ++ journals.by_lines s))
+    (λ s r stripe known. journals.home s r stripe (omega (arith, known, many)))

@@ -1,0 +1,16 @@
+pub mod Closing
+pub mod Distinct
+pub mod Ends
+pub mod Files
+pub mod NoneOut
+pub mod Opening
+pub mod Shown
+pub mod Lists
+pub mod Origins
+pub mod Rules
+pub mod Fitting
+pub mod Fresh
+pub mod Putting
+pub mod OneRegion
+pub mod Stepping
+pub mod Ending

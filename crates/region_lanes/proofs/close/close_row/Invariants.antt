@@ -1,0 +1,21 @@
+use Rattle.std.proofs.Common.{◌≡◌, ◌⊎◌, ◌≤◌, true, List, map, Option, vec_len}
+use Rattle.std.specs.Option.{IfSome}
+use Rattle.page_base.specs.Lanes.{LaneSeen, Rose}
+use Rattle.file_store.specs.Parts.{WhereTold}
+use Rattle.file_store.specs.Shelves.{Shelf}
+use Rattle.region_lanes.specs.Closings.{AllOut, ClosesAll, any_fault}
+use Rattle.region_lanes.specs.contracts.any_lane.AnyLaneStore.TheImpl.{ghosts}
+use Rattle.region_lanes.proofs.close.close_row.Given as goal
+
+abbrev pub invariant-lanes : goal.invariant-lanes
+invariant-lanes g l =
+    let seen = (ghosts g.row.F-Part g.F.Part.Part g.F.Part.Part-dict).seen in
+    record {
+      out : IfSome (g.F.Folder.seen l.folder).told (λ s. AllOut (map seen l.lanes.items) s.out);
+      closed : (new : Option Shelf) → WhereTold (ClosesAll (map seen l.lanes.items)) (g.F.Folder.seen l.folder).told new → WhereTold (ClosesAll (map seen l.fn.lanes.items)) (g.F.Folder.seen l.fn.folder).told new;
+      later : (g.F.Folder.seen l.fn.folder).count ≤ (g.F.Folder.seen l.folder).count;
+      faults : any_fault (map seen l.fn.lanes.items) ≡ true → Rose (g.F.Folder.seen l.fn.folder).count (g.F.Folder.seen l.folder).count ⊎ (any_fault (map seen l.lanes.items) ≡ true);
+    }
+
+abbrev pub decreases-lanes : goal.decreases-lanes
+decreases-lanes g l = vec_len l.lanes

@@ -1,0 +1,5 @@
+pub mod Closings
+pub mod InsideClosed
+pub mod InsideOpened
+pub mod Laws
+pub mod Regions
