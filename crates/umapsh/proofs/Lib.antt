@@ -1,4 +1,10 @@
 pub mod Inputs
+pub mod Lists
+pub mod Lanes
+pub mod RegionLines
+pub mod Closed
+pub mod Ran
 pub mod Refused
 pub mod Outcomes
 pub mod Rightly
+pub mod Stops

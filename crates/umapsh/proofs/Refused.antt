@@ -17,7 +17,7 @@ use Rattle.script_run.specs.FitsLaws.{RegionsAreMaps}
 use Rattle.script_run.specs.Tables.{regions_seen, table_of}
 use Rattle.script_run.specs.RegionRules.{named_region, region_refusal, IfRegionRefused}
 use Rattle.umapsh.specs.Inputs.{refusal_of, refused_behind, refused_text}
-use Rattle.umapsh.specs.InsideTop.{RunStop, text_status, region_status}
+use Rattle.umapsh.specs.InsideTop.{AcceptStop, text_status, region_status}
 use Rattle.script_run.specs.declared.regions.RegionRefusal.{RegionRefusal}
 use Rattle.script_run.specs.declared.regions.TableFault.{TableFault}
 use Rattle.script_run.specs.declared.regions.TableFault.TheVariants as table
@@ -32,25 +32,25 @@ pub record Laws : Type 0 where
 
 -- ---- the text is refused
 
-pub text_refused : Laws → (bytes : List ℕ) (r : RefusedAt) → refusal bytes ≡ Some r → refusal_of bytes ≡ Some (record { line = r.line; kind = why.Text r.kind })
+pub text_refused : Laws → (z : ℕ) (bytes : List ℕ) (r : RefusedAt) → refusal bytes ≡ Some r → refusal_of z bytes ≡ Some (record { line = r.line; kind = why.Text r.kind })
 unfolding refusal_of
-text_refused laws bytes r h = ap refused_text (laws.refused bytes r h)
+text_refused laws z bytes r h = ap (refused_text z) (laws.refused bytes r h)
 
-pub text_stops : Laws → (W : Type 0) (fault : TextFault) (bytes : List ℕ) → IfRefused {W = W} (Err fault) (λ n k. refusal bytes ≡ Some (record { line = n; kind = k })) → RunStop (text_status fault) bytes
-text_stops laws W (text.Refused n k) bytes h = text_refused laws bytes (record { line = n; kind = k }) h
-text_stops laws W text.OutOfMemory bytes h = tt
+pub text_stops : Laws → (W : Type 0) (z : ℕ) (fault : TextFault) (bytes : List ℕ) → IfRefused {W = W} (Err fault) (λ n k. refusal bytes ≡ Some (record { line = n; kind = k })) → AcceptStop z (text_status fault) bytes
+text_stops laws W z (text.Refused n k) bytes h = text_refused laws z bytes (record { line = n; kind = k }) h
+text_stops laws W z text.OutOfMemory bytes h = tt
 
 -- a long input is refused for its length, however long it is
-pub long_refused : (bytes : List ℕ) → 16777216 < length bytes → refusal_of bytes ≡ Some (record { line = 0; kind = why.Text kind.Long })
+pub long_refused : (z : ℕ) (bytes : List ℕ) → 16777216 < length bytes → refusal_of z bytes ≡ Some (record { line = 0; kind = why.Text kind.Long })
 unfolding refusal_of read_text
-long_refused bytes long = rw (lt-leb (length bytes) 16777216 long) refl
+long_refused z bytes long = rw (lt-leb (length bytes) 16777216 long) refl
 
 -- what the regions of a workload are refused for, by the call that was made
-pub same_call : (z : ℕ) (ms slice : List MapLine) (ns lines : List ℕ) → z ≡ 4096 → slice ≡ ms → lines ≡ ns → region_refusal 4096 [] (map named_region ms) ns ≡ region_refusal z [] (map named_region slice) lines
-same_call z ms slice ns lines e f g =
+pub same_call : (z page_size : ℕ) (ms slice : List MapLine) (ns lines : List ℕ) → z ≡ page_size → slice ≡ ms → lines ≡ ns → region_refusal page_size [] (map named_region ms) ns ≡ region_refusal z [] (map named_region slice) lines
+same_call z page_size ms slice ns lines e f g =
     sym (ap (λ (k : ℕ). region_refusal k [] (map named_region slice) lines) e
-    ∙ ap (λ (xs : List MapLine). region_refusal 4096 [] (map named_region xs) lines) f
-    ∙ ap (λ (xs : List ℕ). region_refusal 4096 [] (map named_region ms) xs) g)
+    ∙ ap (λ (xs : List MapLine). region_refusal page_size [] (map named_region xs) lines) f
+    ∙ ap (λ (xs : List ℕ). region_refusal page_size [] (map named_region ms) xs) g)
 
 -- the table of all `map` lines is that of the workload's lines
 pub table_is : RegionsAreMaps → (z page_size : ℕ) (slice : List MapLine) (w : Workload) (t : TableSeen) → t ≡ record { page_size = z; regions = map named_region slice } → z ≡ page_size → slice ≡ w.maps.items → t ≡ table_of page_size (lines_of w)
@@ -62,7 +62,7 @@ table_is maps z page_size slice w t made sized same =
 
 -- ---- the text is accepted
 
-module _ (laws : Laws) (bytes : List ℕ) (w : Workload) (numbers : List ℕ) (spelt : Spells bytes (lines_of w)) (numbered : AreMapNumbers bytes numbers) where
+module _ (laws : Laws) (z : ℕ) (bytes : List ℕ) (w : Workload) (numbers : List ℕ) (spelt : Spells bytes (lines_of w)) (numbered : AreMapNumbers bytes numbers) where
   same_texts : numbered.texts ≡ spelt.texts
   same_texts = laws.one_way bytes numbered.texts spelt.texts numbered.text spelt.text
 
@@ -76,26 +76,26 @@ module _ (laws : Laws) (bytes : List ℕ) (w : Workload) (numbers : List ℕ) (s
   pub as_many : length numbers ≡ length (map named_region w.maps.items)
   as_many = ap length (sym numbers_are) ∙ laws.maps.numbered 1 spelt.texts ∙ ap length regions_are
 
-  pub refusal_is : refusal_of bytes ≡ refused_behind (region_refusal 4096 [] (map named_region w.maps.items) numbers) (is_built (lines_of w))
+  pub refusal_is : refusal_of z bytes ≡ refused_behind (region_refusal z [] (map named_region w.maps.items) numbers) (is_built (lines_of w))
   unfolding refusal_of
   refusal_is =
-      ap refused_text (laws.read bytes spelt.texts spelt.text)
-      ∙ ap (λ (rs : List NamedRegion). refused_behind (region_refusal 4096 [] rs (map_numbers 1 spelt.texts)) (is_built (lines_in spelt.texts))) regions_are
-      ∙ ap (λ (ns : List ℕ). refused_behind (region_refusal 4096 [] (map named_region w.maps.items) ns) (is_built (lines_in spelt.texts))) numbers_are
-      ∙ ap (λ (ls : List Line). refused_behind (region_refusal 4096 [] (map named_region w.maps.items) numbers) (is_built ls)) spelt.lines_are
+      ap (refused_text z) (laws.read bytes spelt.texts spelt.text)
+      ∙ ap (λ (rs : List NamedRegion). refused_behind (region_refusal z [] rs (map_numbers 1 spelt.texts)) (is_built (lines_in spelt.texts))) regions_are
+      ∙ ap (λ (ns : List ℕ). refused_behind (region_refusal z [] (map named_region w.maps.items) ns) (is_built (lines_in spelt.texts))) numbers_are
+      ∙ ap (λ (ls : List Line). refused_behind (region_refusal z [] (map named_region w.maps.items) numbers) (is_built ls)) spelt.lines_are
 
   -- a region breaks a rule
-  region_refused : (r : RegionRefusal) → region_refusal 4096 [] (map named_region w.maps.items) numbers ≡ Some r → refusal_of bytes ≡ Some (record { line = r.line; kind = why.Region r.kind })
+  region_refused : (r : RegionRefusal) → region_refusal z [] (map named_region w.maps.items) numbers ≡ Some r → refusal_of z bytes ≡ Some (record { line = r.line; kind = why.Region r.kind })
   region_refused r h = refusal_is ∙ ap (λ (o : Option RegionRefusal). refused_behind o (is_built (lines_of w))) h
 
-  pub region_stops : (fault : TableFault) (o : Option RegionRefusal) → region_refusal 4096 [] (map named_region w.maps.items) numbers ≡ o → IfRegionRefused fault (λ r. o ≡ Some r) → RunStop (region_status fault) bytes
+  pub region_stops : (fault : TableFault) (o : Option RegionRefusal) → region_refusal z [] (map named_region w.maps.items) numbers ≡ o → IfRegionRefused fault (λ r. o ≡ Some r) → AcceptStop z (region_status fault) bytes
   region_stops (table.Refused r) o same h = region_refused r (same ∙ h)
   region_stops table.OutOfMemory o same h = tt
 
   -- none does, and the workload isn't built
-  pub unbuilt_refused : region_refusal 4096 [] (map named_region w.maps.items) numbers ≡ None → is_built (lines_of w) ≡ false → refusal_of bytes ≡ Some (record { line = 0; kind = why.Unbuilt })
+  pub unbuilt_refused : region_refusal z [] (map named_region w.maps.items) numbers ≡ None → is_built (lines_of w) ≡ false → refusal_of z bytes ≡ Some (record { line = 0; kind = why.Unbuilt })
   unbuilt_refused h b = refusal_is ∙ ap (λ (o : Option RegionRefusal). refused_behind o (is_built (lines_of w))) h ∙ ap (λ (x : _). refused_behind None x) b
 
   -- or it is
-  pub unrefused : region_refusal 4096 [] (map named_region w.maps.items) numbers ≡ None → is_built (lines_of w) ≡ true → refusal_of bytes ≡ None
+  pub unrefused : region_refusal z [] (map named_region w.maps.items) numbers ≡ None → is_built (lines_of w) ≡ true → refusal_of z bytes ≡ None
   unrefused h b = refusal_is ∙ ap (λ (o : Option RegionRefusal). refused_behind o (is_built (lines_of w))) h ∙ ap (λ (x : _). refused_behind None x) b

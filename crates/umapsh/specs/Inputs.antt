@@ -1,12 +1,10 @@
--- Which inputs are refused, with which line and kind: by the text, else by the rules on regions, else because they aren't
--- built yet.
+-- Which inputs are refused, with pages of which size.
 use Rattle.std.specs.Prelude.{ℕ, Bool, true, false, List, [], Option, Some, None, Result, Ok, Err}
 use Rattle.workload_text.specs.Line.{TextLine}
 use Rattle.workload_text.specs.Grammar.{lines_in}
 use Rattle.workload_text.specs.Refusals.{RefusedAt, read_text}
 use Rattle.workload_text.specs.Answers.{map_numbers}
 use Rattle.workload_text.specs.Built.{is_built}
-use Rattle.script_run.specs.declared.settings.TheConstants.{DEFAULT_PAGE_SIZE}
 use Rattle.script_run.specs.Tables.{regions_seen}
 use Rattle.script_run.specs.RegionRules.{region_refusal}
 use Rattle.script_run.specs.declared.regions.RegionRefusal.{RegionRefusal}
@@ -23,10 +21,10 @@ refused_behind (Some r) built = Some (record { line = r.line; kind = why.Region 
 refused_behind None true = None
 refused_behind None false = Some (record { line = 0; kind = why.Unbuilt })
 
-abbrev pub refused_text : Result (List TextLine) RefusedAt → Option RefusedInput
-refused_text (Err r) = Some (record { line = r.line; kind = why.Text r.kind })
-refused_text (Ok ts) = refused_behind (region_refusal DEFAULT_PAGE_SIZE [] (regions_seen (lines_in ts)) (map_numbers 1 ts)) (is_built (lines_in ts))
+abbrev pub refused_text : (page_size : ℕ) → Result (List TextLine) RefusedAt → Option RefusedInput
+refused_text page_size (Err r) = Some (record { line = r.line; kind = why.Text r.kind })
+refused_text page_size (Ok ts) = refused_behind (region_refusal page_size [] (regions_seen (lines_in ts)) (map_numbers 1 ts)) (is_built (lines_in ts))
 
 -- why an input is refused, if it is
-unfoldable pub refusal_of : List ℕ → Option RefusedInput
-refusal_of bytes = refused_text (read_text bytes)
+unfoldable pub refusal_of : (page_size : ℕ) → List ℕ → Option RefusedInput
+refusal_of page_size bytes = refused_text page_size (read_text bytes)

@@ -1,5 +1,5 @@
 pub mod Status
-pub mod Words
 pub mod Inputs
+pub mod Runs
 pub mod Top
 pub mod InsideTop

@@ -1,25 +1,13 @@
-use Rattle.std.proofs.Common.{[], lit≤}
-use Rattle.umapsh.proofs.Inputs.{consumes_none}
-use Rattle.umapsh.proofs.Outcomes.{done_says, fault_says, run_says, run_causes, read_says, read_causes}
+use Rattle.std.proofs.Common.{refl}
+use Rattle.call_words.specs.Calls.{reads_of, settings_seen}
+use Rattle.umapsh.specs.Top.{outside}
+use Rattle.umapsh.proofs.Outcomes.{run_says}
 use Rattle.umapsh.proofs.top.answer.Goals as goal
 
-pub returns-in-Some-clause-few : goal.returns-in-Some-clause-few
-returns-in-Some-clause-few g c = ([], consumes_none (g.S.Source.left c.args.source.now), lit≤ tt)
-
-pub returns-in-Err-clause-says : goal.returns-in-Err-clause-says
-returns-in-Err-clause-says g c = read_says c.in-Err.status _ _ _ _ _ c.in-Err.ensures.stop
-
-pub returns-in-Err-clause-causes : goal.returns-in-Err-clause-causes
-returns-in-Err-clause-causes g c = read_causes c.in-Err.status _ _ _ _ c.in-Err.ensures.stop
-
-pub returns-in-Err-run-clause-says : goal.returns-in-Err-run-clause-says
-returns-in-Err-run-clause-says g c = run_says c.in-Err-run.status _ _ _ c.in-Ok.bytes.items c.in-Ok.ensures.all (rw c.as_slice.ensures.value at c.in-Err-run.ensures.stop)
-
-pub returns-in-Err-run-clause-causes : goal.returns-in-Err-run-clause-causes
-returns-in-Err-run-clause-causes g c = run_causes c.in-Err-run.status _ _ _ _ _ c.in-Err-run.ensures.stop
-
-pub returns-in-Ok-write_all-clause-says : goal.returns-in-Ok-write_all-clause-says
-returns-in-Ok-write_all-clause-says g c = done_says _ _ _ _ c.in-Ok.bytes.items c.in-Ok-run.text.items c.in-Ok.ensures.all (rw c.as_slice.ensures.value at c.in-Ok-run.ensures.ok) (rw c.as_slice-2.ensures at c.in-Ok-write_all.ensures.ok)
-
 pub returns-clause-says : goal.returns-clause-says
-returns-clause-says g c = fault_says _ _ _ _ c.in-Ok.bytes.items c.in-Ok-run.text.items c.in-Err-write_all.fault.faults c.in-Ok.ensures.all (rw c.as_slice.ensures.value at c.in-Ok-run.ensures.ok) (rw c.as_slice-2.ensures at c.in-Err-write_all.ensures.err)
+returns-clause-says g c =
+    let reads = reads_of c.args.call.now in
+    let old = outside g.S.Source.left g.S.Source.fault_count g.F.Folder.seen g.K.Sink.written g.K.Sink.fault_count c.args.source.now c.args.folder.now c.args.sink.now in
+    let new = outside g.S.Source.left g.S.Source.fault_count g.F.Folder.seen g.K.Sink.written g.K.Sink.fault_count c.read_all.new.source c.run.new.folder c.args.sink.now in
+    run_says reads (settings_seen c.in-Ok.settings) c.in-Ok.ensures.settings old new c.in-Ok-read_all.bytes.items c.in-Ok-read_all.ensures.all c.in-Err-run.status
+    (rw c.as_slice.ensures.value at c.in-Err-run.ensures.stop) (record { written = refl; files = c.in-Err-run.ensures.back })

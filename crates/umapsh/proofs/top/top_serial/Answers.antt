@@ -3,5 +3,4 @@ use Rattle.umapsh.proofs.top.top_serial.Goals as goal
 
 pub returns-clause-right : goal.returns-clause-right
 returns-clause-right g c =
-    rightly c.refusals_are_right.ensures (λ bytes r e. (c.text_is_refused_at_its_first_bad_line.ensures bytes r).0 e)
-    c.answer.result (g.S.Source.left c.args.source.now) (g.S.Source.left c.answer.new.source) (g.K.Sink.written c.args.sink.now) (g.K.Sink.written c.answer.new.sink) c.answer.ensures.says
+    rightly c.refusals_are_right.ensures (λ bytes r e. (c.text_is_refused_at_its_first_bad_line.ensures bytes r).0 e) _ c.answer-status.result _ _ c.answer-status.ensures.says
