@@ -257,7 +257,7 @@ fn places_for(alloc: Global, numbers: u32) -> Result<Vec<Place>, OutOfMemory>
         group: 0,
         marked: false,
     };
-    vec![in alloc; blank; numbers as usize].map_err(|_| OutOfMemory)
+    Ok(vec![in alloc; blank; numbers as usize]?)
 }
 
 /// Puts a number that stands in no list into one.

@@ -47,7 +47,7 @@ impl IndexLists {
         ensures empty { IfOk result (λ l. l ≡ all_empty lists numbers) }
     {
         let ends = numbers + lists;
-        let mut nodes = Vec::with_capacity(alloc, ends as usize).map_err(|_| OutOfMemory)?;
+        let mut nodes = Vec::with_capacity(alloc, ends as usize)?;
         for at in 0..ends {
             nodes.push_reserved(Node {
                 previous: at,
