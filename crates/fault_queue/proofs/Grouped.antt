@@ -1,12 +1,12 @@
 -- What ties the groups stays where a free slot gets a raise, and where a raise leaves its slot.
-use Rattle.std.proofs.Common.{◌≡◌, ℕ, ◌+◌, ◌<◌, ◌≤◌, ◌==◌, not, Bool, true, false, List, [], ◌∷◌, ◌++◌, length, replicate, IsTrue, refl, sym, ap, subst, ◌∙◌, arith}
-use Rattle.std.specs.Prelude.{slice_index_or, slice_set, slice_get}
+use Rattle.std.proofs.Common.{◌≡◌, ℕ, ◌+◌, ◌<◌, ◌≤◌, ◌==◌, not, true, false, List, [], ◌∷◌, ◌++◌, length, replicate, IsTrue, sym, ap, subst, ◌∙◌, arith}
+use Rattle.std.specs.Prelude.{slice_set}
 use Rattle.std.proofs.lemmas.List.{length-set}
 use Rattle.page_base.specs.declared.keys.Raise.{Raise}
-use Rattle.index_lists.specs.Lists.{ListsSeen, list_at, stands, pushed, removed, without, all_empty}
-use Rattle.fault_queue.specs.InsideQueues.{groups, fault_group, groups_of, is_in_group, AreFaultsGrouped, AreStamped}
-use Rattle.fault_queue.proofs.Counts.{count, filter-none}
-use Rattle.fault_queue.proofs.Groups.{group_below, group_count, group_at, groups_with, groups_without, in_no_group, in_group, empty_groups}
+use Rattle.index_lists.specs.Lists.{ListsSeen, stands, pushed, removed, without, all_empty}
+use Rattle.fault_queue.specs.InsideQueues.{groups, fault_group, groups_of, AreFaultsGrouped, AreStamped}
+use Rattle.fault_queue.proofs.Counts.{count}
+use Rattle.fault_queue.proofs.Groups.{group_count, groups_with, groups_without, in_no_group, in_group, empty_groups}
 use Rattle.fault_queue.proofs.Stamps.{rise_push, rise_filter}
 
 module _ (slots : List Raise) (order : List ℕ) (lists : ListsSeen) (stamps : List ℕ) (told : ℕ) (g : AreFaultsGrouped slots order lists stamps told) where

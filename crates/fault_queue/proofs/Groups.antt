@@ -1,6 +1,6 @@
 -- The lists of the groups, where a slot gets a raise at the end of the order, and where one leaves the order.
-use Rattle.std.proofs.Common.{◌≡◌, ℕ, ◌+◌, ◌<◌, ◌≤◌, ◌==◌, Bool, true, false, cond, List, [], ◌∷◌, ◌++◌, length, map, filter, find, replicate, zero, suc, ◌⊎◌, refl, sym, ap, subst, ◌∙◌, inl, inr, arith, append-nil, IsTrue, Option, Some, None}
-use Rattle.std.specs.Prelude.{slice_index_or, slice_set, slice_get}
+use Rattle.std.proofs.Common.{◌≡◌, ℕ, ◌+◌, ◌<◌, ◌≤◌, ◌==◌, Bool, true, false, cond, List, [], ◌∷◌, ◌++◌, length, map, filter, replicate, zero, suc, ◌⊎◌, refl, sym, ap, ◌∙◌, inl, inr, arith, append-nil}
+use Rattle.std.specs.Prelude.{slice_index_or, slice_set}
 use Rattle.std.specs.List.{range_with_len, list_any}
 use Rattle.std.proofs.lemmas.List.{length-set, get_or-set_same, get_or-set_other, same_lists}
 use Rattle.std.proofs.lemmas.List.Elements.{filter-append}
@@ -9,7 +9,7 @@ use Rattle.std.proofs.lemmas.List.Folds.{list_any_none, list_any_at}
 use Rattle.std.proofs.lemmas.List.FromFn.{length-map-range_with_len, get_or-map-range_with_len}
 use Rattle.std.proofs.lemmas.Bool.{cases_eq, eq-eqb, eqb-true, false_from_ne_true}
 use Rattle.page_base.specs.declared.keys.Raise.{Raise}
-use Rattle.index_lists.specs.Lists.{ListsSeen, list_at, has, without, stands, pushed, removed}
+use Rattle.index_lists.specs.Lists.{has, without, stands}
 use Rattle.fault_queue.specs.Queues.{opens, group_region}
 use Rattle.fault_queue.specs.InsideQueues.{blank, raise_in, groups, fault_group, is_in_group, groups_of}
 use Rattle.fault_queue.proofs.Counts.{count, count_by-filter, filter_swap, has_none, has_from_count, filter_apart}

@@ -66,8 +66,8 @@ impl PageBuffer {
         ensures free { IfOk result (λ b. b ≡ all_free quota page_size regions) }
     {
         let order = GroupedOrder::new(alloc, regions, quota)?;
-        let mut free = Vec::with_capacity(alloc, quota as usize).map_err(|_| OutOfMemory)?;
-        let mut frames = Vec::with_capacity(alloc, quota as usize).map_err(|_| OutOfMemory)?;
+        let mut free = Vec::with_capacity(alloc, quota as usize)?;
+        let mut frames = Vec::with_capacity(alloc, quota as usize)?;
         let mut arena = match FrameArena::new(alloc, quota, page_size) {
             Ok(arena) => arena,
             Err(refused) => {

@@ -1,4 +1,4 @@
-use Rattle.std.proofs.Common.{◌≡◌, ◌<◌, ◌+◌, ◌%◌, Bool, true, false, cond, ℕ, arith, sym, ap, ◌∙◌}
+use Rattle.std.proofs.Common.{◌≡◌, ◌+◌, true, false, cond, ℕ, arith, sym, ap, ◌∙◌}
 use Rattle.page_base.specs.declared.keys.Raise.{Raise}
 use Rattle.fault_queue.specs.Queues.{group_region, opens}
 use Rattle.fault_queue.proofs.queue.group.Goals as goal

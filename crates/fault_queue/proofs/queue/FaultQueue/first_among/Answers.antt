@@ -1,15 +1,13 @@
-use Rattle.std.proofs.Common.{◌≡◌, ◌<◌, ◌+◌, ◌∙◌, ℕ, Bool, true, false, IfSome, Option, None, Some, length, find, sym, ap, subst, arith}
-use Rattle.std.specs.Prelude.{slice_get}
+use Rattle.std.proofs.Common.{◌≡◌, ◌<◌, ◌+◌, ◌∙◌, ℕ, Bool, true, false, None, Some, length, find, sym, ap, subst, arith}
 use Rattle.std.specs.Option.{option_map}
 use Rattle.std.proofs.lemmas.List.{get_or_read}
 use Rattle.index_lists.specs.Lists.{list_at}
-use Rattle.page_base.specs.declared.keys.Raise.{Raise}
 use Rattle.fault_queue.specs.contracts.queue.FaultQueue.first_among.T-Fn.{words}
-use Rattle.fault_queue.specs.InsideQueues.{blank, raise_in, raises_in, is_in_group, earlier}
-use Rattle.fault_queue.specs.Queues.{QueueSeen, Computes, of_group, passes_by, group_region, opens, raise_of}
+use Rattle.fault_queue.specs.InsideQueues.{blank, raise_in, is_in_group, earlier}
+use Rattle.fault_queue.specs.Queues.{group_region, opens, raise_of}
 use Rattle.std.specs.List.{Contains}
 use Rattle.fault_queue.proofs.Among.{head_is, none_below, next_none, next_passes, next_fails, all_groups, earlier_within, contained, passes_at, passes_below}
-use Rattle.fault_queue.proofs.Grouped.{groups_number, groups_many}
+use Rattle.fault_queue.proofs.Grouped.{groups_number}
 use Rattle.fault_queue.proofs.queue.FaultQueue.first_among.Goals as goal
 use Rattle.fault_queue.proofs.queue.FaultQueue.first_among.Goals.{in-Some+then-test, in-Some+else-test, in_default}
 

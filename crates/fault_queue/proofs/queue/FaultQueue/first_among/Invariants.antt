@@ -1,4 +1,4 @@
-use Rattle.std.proofs.Common.{ℕ, Bool, ◌≡◌, ◌<◌, ◌&&◌, length, find, IfSome}
+use Rattle.std.proofs.Common.{ℕ, Bool, ◌≡◌, ◌<◌, length, find, IfSome}
 use Rattle.index_lists.specs.Lists.{list_at}
 use Rattle.fault_queue.specs.InsideQueues.{raises_in}
 use Rattle.fault_queue.specs.Queues.{Computes, of_group, passes_by}

@@ -1,9 +1,6 @@
-use Rattle.std.proofs.Common.{◌≡◌, ◌∙◌, ◌<◌, ◌+◌, ◌||◌, ap, sym, is_some, arith, true, false, refl, length, find}
+use Rattle.std.proofs.Common.{◌≡◌, ◌∙◌, ◌+◌, ap, sym, is_some, arith, true, false, find}
 use Rattle.std.specs.Prelude.{slice_get}
-use Rattle.std.specs.List.{list_any}
-use Rattle.page_base.specs.declared.keys.Raise.{Raise}
 use Rattle.index_lists.specs.Lists.{list_at}
-use Rattle.fault_queue.specs.Queues.{QueueSeen, group_region}
 use Rattle.fault_queue.specs.InsideQueues.{is_in_group}
 use Rattle.fault_queue.proofs.Among.{head_is, waits_either, or_left, or_right}
 use Rattle.fault_queue.proofs.Grouped.{groups_many}

@@ -1,4 +1,4 @@
-use Rattle.std.proofs.Common.{◌≡◌, ℕ, Bool, sym, subst}
+use Rattle.std.proofs.Common.{ℕ, Bool, sym, subst}
 use Rattle.page_base.specs.declared.keys.Raise.{Raise}
 use Rattle.fault_queue.specs.Queues.{group_region, opens}
 use Rattle.fault_queue.specs.contracts.queue.FaultQueue.first_among.T-Fn.{words}
