@@ -1,11 +1,10 @@
 -- A stripe that has just been made.
-use Rattle.std.proofs.Common.{List, None, Option, Some, Vec, [], ap, arith, false, get_or, length, map, refl, replicate, slice_get, subst, suc, sym, true, zero, ℕ, ◌<◌, ◌∙◌, ◌∷◌, ◌≡◌, ◌≤◌}
+use Rattle.std.proofs.Common.{List, None, Option, Some, [], ap, arith, false, get_or, length, map, refl, replicate, slice_get, subst, suc, sym, true, zero, ℕ, ◌<◌, ◌∙◌, ◌∷◌, ◌≡◌, ◌≤◌}
 use Rattle.std.proofs.lemmas.Bool.{and_parts, ltb-true}
 use Rattle.std.proofs.lemmas.List.{length-map, length-replicate}
 use Rattle.std.proofs.lemmas.Option.{slice_get-map, slice_get_within}
 use Rattle.std.specs.List.{count_by, list_all}
 use Rattle.std.specs.Option.{is_some, option_map, IfSome}
-use Rattle.std.specs.declared.alloc.Global.{Global}
 use Rattle.page_base.specs.Lanes.{LaneSeen, told_at}
 use Rattle.page_base.specs.declared.keys.Key.{Key}
 use Rattle.page_base.specs.declared.keys.RegionShape.{RegionShape}
@@ -26,6 +25,7 @@ use Rattle.stripe_core.specs.declared.config.StripeConfig.{StripeConfig}
 use Rattle.stripe_core.specs.declared.region.Region.{Region}
 use Rattle.stripe_core.specs.Configs.{setup_of, CanMake}
 use Rattle.stripe_core.specs.InsideMade.{no_faults, regions_made, region_made}
+use Rattle.stripe_core.specs.InsideReadFaults.{AreShares, HasPagesOf, ReadFaultsSeen}
 use Rattle.stripe_core.specs.Parts.{page_seen, region_seen, core_of}
 use Rattle.stripe_core.specs.InsideParts.{ReadOut, reads_of}
 use Rattle.stripe_core.specs.InsideTied.{Tied, IsSized, frame_in, reserved_key, read_at}
@@ -48,7 +48,7 @@ none_present shapes k =
     let row = rows_absent shapes k.region in
     ap (λ (xs : List PageEntry). get_or xs k.page Absent) row.1 ∙ replicated row.0 k.page Absent
 
-none_out : {S : Type 0} (lanes : List S) (faults : List (Vec ℕ Global)) (r : ℕ) → read_at (reads_of (regions_made lanes faults)) r ≡ None
+none_out : {S : Type 0} (lanes : List S) (faults : List ReadFaultsSeen) (r : ℕ) → read_at (reads_of (regions_made lanes faults)) r ≡ None
 none_out [] faults r = refl
 none_out (s ∷ lanes) [] r = refl
 none_out (s ∷ lanes) (f ∷ faults) zero = refl
@@ -58,14 +58,14 @@ no_reserved : (n : ℕ) → count_by is_reserved (replicate n Free) ≡ 0
 no_reserved zero = refl
 no_reserved (suc n) = count_cons is_reserved Free (replicate n Free) ∙ (let rest = no_reserved n in omega (arith, rest))
 
-no_reads : {S : Type 0} (lanes : List S) (faults : List (Vec ℕ Global)) → count_by is_some (reads_of (regions_made lanes faults)) ≡ 0
+no_reads : {S : Type 0} (lanes : List S) (faults : List ReadFaultsSeen) → count_by is_some (reads_of (regions_made lanes faults)) ≡ 0
 no_reads [] faults = refl
 no_reads (s ∷ lanes) [] = refl
 no_reads {S} (s ∷ lanes) (f ∷ faults) =
     let none : Option ReadOut = None in
     count_cons is_some none (reads_of (regions_made lanes faults)) ∙ (let rest = no_reads lanes faults in omega (arith, rest))
 
-pub fresh_tied : {S : Type 0} (shapes : List RegionShape) (page_size n regions : ℕ) (lanes : List S) (faults : List (Vec ℕ Global))
+pub fresh_tied : {S : Type 0} (shapes : List RegionShape) (page_size n regions : ℕ) (lanes : List S) (faults : List ReadFaultsSeen)
     → Tied (no_pages shapes) (all_free n page_size regions) (reads_of (regions_made lanes faults))
 fresh_tied shapes page_size n regions lanes faults = record {
   residents = λ k. sym (ap (λ e. is_some (frame_in e)) (none_present shapes k));
@@ -80,33 +80,43 @@ fresh_tied shapes page_size n regions lanes faults = record {
 
 -- ---- the regions
 
-pub made_seen : {S : Type 0} (seen : S → LaneSeen) (lanes : List S) (faults : List (Vec ℕ Global)) (shapes : List RegionShape) → map (λ (v : Vec ℕ Global). v.items) faults ≡ map no_faults shapes → length lanes ≡ length shapes
+pub made_seen : {S : Type 0} (seen : S → LaneSeen) (lanes : List S) (faults : List ReadFaultsSeen) (shapes : List RegionShape) → map (λ (f : ReadFaultsSeen). f.numbers) faults ≡ map no_faults shapes → length lanes ≡ length shapes
     → map (region_seen seen) (regions_made lanes faults) ≡ fresh_regions shapes (map seen lanes)
 made_seen seen [] faults [] e n = refl
 made_seen seen [] faults (s ∷ shapes) e n = absurd (omega (arith, n))
 made_seen seen (x ∷ lanes) faults [] e n = absurd (omega (arith, n))
 made_seen seen (x ∷ lanes) [] (s ∷ shapes) e n = absurd cc
 made_seen seen (x ∷ lanes) (f ∷ faults) (s ∷ shapes) e n =
-    let here : f.items ≡ replicate s.pages 0 = cc in
-    let tail : map (λ (v : Vec ℕ Global). v.items) faults ≡ map no_faults shapes = cc in
+    let here : f.numbers ≡ replicate s.pages 0 = cc in
+    let tail : map (λ (f : ReadFaultsSeen). f.numbers) faults ≡ map no_faults shapes = cc in
     let rest = made_seen seen lanes faults shapes tail (omega (arith, n)) in
     cc (here, rest)
 
-pub made_length : {S : Type 0} (lanes : List S) (faults : List (Vec ℕ Global)) → length faults ≡ length lanes → length (regions_made lanes faults) ≡ length lanes
+pub made_length : {S : Type 0} (lanes : List S) (faults : List ReadFaultsSeen) → length faults ≡ length lanes → length (regions_made lanes faults) ≡ length lanes
 made_length [] faults e = refl
 made_length (x ∷ lanes) [] e = absurd (omega (arith, e))
 made_length (x ∷ lanes) (f ∷ faults) e = ap suc (made_length lanes faults (omega (arith, e)))
 
-pub made_faults : {S : Type 0} (lanes : List S) (faults : List (Vec ℕ Global)) (shapes : List RegionShape) → map (λ (v : Vec ℕ Global). v.items) faults ≡ map no_faults shapes
-    → (r : ℕ) (g : Region S) → slice_get (regions_made lanes faults) r ≡ Some g → length g.read_faults.items ≡ pages_of (slice_get shapes r)
+pub made_faults : {S : Type 0} (lanes : List S) (faults : List ReadFaultsSeen) (shapes : List RegionShape) → map (λ (f : ReadFaultsSeen). f.numbers) faults ≡ map no_faults shapes
+    → (r : ℕ) (g : Region S) → slice_get (regions_made lanes faults) r ≡ Some g → length g.read_faults.numbers ≡ pages_of (slice_get shapes r)
 made_faults [] faults shapes e r g is = absurd cc
 made_faults (x ∷ lanes) [] shapes e r g is = absurd cc
 made_faults (x ∷ lanes) (f ∷ faults) [] e r g is = absurd cc
 made_faults (x ∷ lanes) (f ∷ faults) (s ∷ shapes) e zero g is =
-    let here : f.items ≡ replicate s.pages 0 = cc in
+    let here : f.numbers ≡ replicate s.pages 0 = cc in
     let same_region : region_made x f ≡ g = cc in
     rw (← same_region, here) (length-replicate s.pages 0)
 made_faults (x ∷ lanes) (f ∷ faults) (s ∷ shapes) e (suc r) g is = made_faults lanes faults shapes (cc) r g is
+
+pub made_shares : {S : Type 0} (c : StripeConfig) (lanes : List S) (faults : List ReadFaultsSeen) → AreShares c faults
+    → (r : ℕ) (g : Region S) → slice_get (regions_made lanes faults) r ≡ Some g → HasPagesOf c r g.read_faults.share
+made_shares {S} c lanes faults shares r g is = shares r g.read_faults (go lanes faults r is)
+  where
+    go : (ls : List S) (fs : List ReadFaultsSeen) (q : ℕ) → slice_get (regions_made ls fs) q ≡ Some g → slice_get fs q ≡ Some g.read_faults
+    go [] fs q e = absurd cc
+    go (x ∷ ls) [] q e = absurd cc
+    go (x ∷ ls) (f ∷ fs) zero e = let same_region : region_made x f ≡ g = cc in ap (λ (y : Region S). Some y.read_faults) same_region
+    go (x ∷ ls) (f ∷ fs) (suc q) e = go ls fs q e
 
 -- ---- the setup
 
@@ -159,13 +169,13 @@ setup_fits {S} seen c lanes can frames size small whole = record {
         let whole_page : length bytes ≡ (seen s).origin.page_size = subst P told (whole s k.page) in
         whole_page ∙ size_is
 
-pub faults_length : {S : Type 0} (lanes : List S) (seen : S → LaneSeen) (shapes : List RegionShape) (faults : List (Vec ℕ Global)) → map (λ (v : Vec ℕ Global). v.items) faults ≡ map no_faults shapes → length (map seen lanes) ≡ length shapes → length faults ≡ length lanes
-faults_length lanes seen shapes faults e n = sym (length-map faults (λ (v : Vec ℕ Global). v.items)) ∙ (ap length e ∙ (length-map shapes no_faults ∙ (sym n ∙ length-map lanes seen)))
+pub faults_length : {S : Type 0} (lanes : List S) (seen : S → LaneSeen) (shapes : List RegionShape) (faults : List ReadFaultsSeen) → map (λ (f : ReadFaultsSeen). f.numbers) faults ≡ map no_faults shapes → length (map seen lanes) ≡ length shapes → length faults ≡ length lanes
+faults_length lanes seen shapes faults e n = sym (length-map faults (λ (f : ReadFaultsSeen). f.numbers)) ∙ (ap length e ∙ (length-map shapes no_faults ∙ (sym n ∙ length-map lanes seen)))
 
-pub fresh_sized : {S : Type 0} (seen : S → LaneSeen) (c : StripeConfig) (lanes : List S) (faults : List (Vec ℕ Global)) (q : WaitingSeen) (marks : Marks) → CanMake c (map seen lanes) → map (λ (v : Vec ℕ Global). v.items) faults ≡ map no_faults c.shapes.items
+pub fresh_sized : {S : Type 0} (seen : S → LaneSeen) (c : StripeConfig) (lanes : List S) (faults : List ReadFaultsSeen) (q : WaitingSeen) (marks : Marks) → CanMake c (map seen lanes) → map (λ (f : ReadFaultsSeen). f.numbers) faults ≡ map no_faults c.shapes.items → AreShares c faults
     → q.raises ≡ [] → q.capacity ≡ c.faults → marks.on ≡ on_mark (quota (setup_of c (map seen lanes))) c.high → marks.off ≡ off_mark (quota (setup_of c (map seen lanes))) c.low
     → IsSized c (map seen lanes) (no_pages c.shapes.items) (all_free (quota (setup_of c (map seen lanes))) c.layout.page_size (length c.shapes.items)) q (regions_made lanes faults) marks
-fresh_sized seen c lanes faults q marks can e none capacity on off = record {
+fresh_sized seen c lanes faults q marks can e shares none capacity on off = record {
   table = λ k h. fresh_has (setup_of c (map seen lanes)) k h;
   rows = length-map c.shapes.items (λ (s : RegionShape). replicate s.pages Absent);
   page_size = refl;
@@ -173,6 +183,7 @@ fresh_sized seen c lanes faults q marks can e none capacity on off = record {
   capacity = capacity;
   regions = made_length lanes faults (faults_length lanes seen c.shapes.items faults e can.lane_count) ∙ (sym (length-map lanes seen) ∙ can.lane_count);
   faults = made_faults lanes faults c.shapes.items e;
+  shares = made_shares c lanes faults shares;
   on = on;
   off = off;
   groups = refl;
@@ -181,7 +192,7 @@ fresh_sized seen c lanes faults q marks can e none capacity on off = record {
   lost = let none_lost : count_by (is_lost (no_pages c.shapes.items)) q.raises ≡ 0 = ap (count_by (is_lost (no_pages c.shapes.items))) none in omega (arith, none_lost);
 }
 
-pub core_fresh : {S : Type 0} (seen : S → LaneSeen) (c : StripeConfig) (lanes : List S) (faults : List (Vec ℕ Global)) (b : BufferSeen) → b.residents ≡ [] → CanMake c (map seen lanes) → map (λ (v : Vec ℕ Global). v.items) faults ≡ map no_faults c.shapes.items
+pub core_fresh : {S : Type 0} (seen : S → LaneSeen) (c : StripeConfig) (lanes : List S) (faults : List ReadFaultsSeen) (b : BufferSeen) → b.residents ≡ [] → CanMake c (map seen lanes) → map (λ (f : ReadFaultsSeen). f.numbers) faults ≡ map no_faults c.shapes.items
     → core_of seen (setup_of c (map seen lanes)) (no_pages c.shapes.items) b [] (regions_made lanes faults) false no_counts 0 ≡ fresh (setup_of c (map seen lanes))
 core_fresh seen c lanes faults b empty can e =
     let regions = made_seen seen lanes faults c.shapes.items e (sym (length-map lanes seen) ∙ can.lane_count) in

@@ -3,24 +3,23 @@ use Rattle.std.proofs.Common.{All, Bool, IfSome, List, None, Option, Some, [], a
 use Rattle.std.specs.Prelude.{nat_lt}
 use Rattle.std.specs.Option.{option_map}
 use Rattle.std.proofs.lemmas.Bool.{cases_eq, cases_lt, eqb-true, eq-eqb, false_from_ne_true, lt-ltb, le-ltb}
-use Rattle.std.proofs.lemmas.Option.{slice_get-map, slice_get-get_or, slice_get_within}
+use Rattle.std.proofs.lemmas.Option.{slice_get-map, slice_get_within}
 use Rattle.page_base.specs.declared.keys.Key.{Key}
 use Rattle.page_base.specs.Lanes.{LaneSeen}
 use Rattle.soft_mmu.specs.declared.entry.PageEntry.{PageEntry}
 use Rattle.soft_mmu.specs.declared.entry.PageEntry.TheVariants.{Absent, Present}
-use Rattle.soft_mmu.specs.Entries.{table_entry, is_present, HasPage}
+use Rattle.soft_mmu.specs.Entries.{table_entry, is_present}
 use Rattle.page_buffer.specs.Frames.{resident_key}
-use Rattle.page_buffer.specs.Buffers.{BufferSeen, frame_of, is_clean, is_of_region, IsFillOrder}
+use Rattle.page_buffer.specs.Buffers.{BufferSeen, frame_of, is_clean, IsFillOrder}
 use Rattle.page_buffer.specs.Buffers as buffer
-use Rattle.page_model.specs.Core.{Core, Resident, RegionSeen, region_at, place_passes, writes, is_home_place, dirties, is_dirty, is_home, is_writing}
-use Rattle.page_model.specs.Core as core
+use Rattle.page_model.specs.Core.{Core, RegionSeen, region_at, place_passes, writes, is_home_place, dirties, is_dirty}
 use Rattle.page_model.specs.Residents.{is_in}
 use Rattle.stripe_core.specs.declared.region.Region.{Region}
 use Rattle.stripe_core.specs.InsideFrameStates.{leaves}
 use Rattle.stripe_core.specs.InsideOldest.{goes, goes_of, goes_from, may_go, may_go_below}
 use Rattle.stripe_core.specs.InsideParts.{ReadOut}
 use Rattle.stripe_core.specs.InsideTied.{Tied, dirt, frame_in}
-use Rattle.stripe_core.specs.Parts.{Table, page_in, page_seen, pages_seen, region_seen, place_of}
+use Rattle.stripe_core.specs.Parts.{Table, page_in, pages_seen, region_seen, place_of}
 use Rattle.stripe_core.proofs.Finds.{held_seen, present_has}
 use Rattle.stripe_core.proofs.Keys.{resident_within}
 

@@ -6,6 +6,7 @@ pub mod Chosen
 pub mod Counted
 pub mod Ties
 pub mod Sizes
+pub mod Shares
 pub mod Waiting
 pub mod ReadTies
 pub mod Lanes

@@ -1,9 +1,7 @@
 -- How many faults may be lost after a change of an entry or of the queue.
-use Rattle.std.proofs.Common.{◌≡◌, ℕ, suc, ◌+◌, ◌-◌, ◌<◌, ◌≤◌, Bool, true, false, not, cond, List, [], ◌∷◌, ◌++◌, length, filter, find, Option, Some, None, refl, sym, ap, subst, ◌∙◌, arith, ◌||◌, ◌&&◌, inl, inr}
+use Rattle.std.proofs.Common.{◌≡◌, ℕ, suc, ◌+◌, ◌-◌, ◌≤◌, Bool, true, false, not, cond, List, [], ◌∷◌, ◌++◌, length, filter, refl, sym, ap, ◌∙◌, arith, ◌&&◌}
 use Rattle.std.specs.Prelude.{nat_lt}
 use Rattle.std.specs.List.{count_by, list_all}
-use Rattle.std.specs.Option.{option_map}
-use Rattle.std.proofs.lemmas.Bool.{and_parts, and_from}
 use Rattle.std.proofs.lemmas.Bool.Decides.{nat_tests}
 use Rattle.std.proofs.lemmas.List.Sums.{sum_by-append}
 use Rattle.page_base.specs.Pages.{same}
@@ -16,7 +14,7 @@ use Rattle.page_model.specs.Events.{CanRaiseFor}
 use Rattle.soft_mmu.specs.declared.entry.PageEntry.{PageEntry}
 use Rattle.soft_mmu.specs.declared.entry.PageEntry.TheVariants.{Absent, Present}
 use Rattle.soft_mmu.specs.Entries.{table_entry, with_entry, HasPage, is_protected, closed, cleaned, bits_of}
-use Rattle.fault_queue.specs.Queues.{is_of, without, opens, opens_why, pending_why, AreOnce}
+use Rattle.fault_queue.specs.Queues.{is_of, without, opens, opens_why, AreOnce}
 use Rattle.stripe_core.specs.Parts.{Table}
 use Rattle.stripe_core.specs.InsideWaiting.{WaitingSeen, raised, waits_open, with_lost, dropped, is_lost, LostWithin}
 use Rattle.stripe_core.proofs.Counted.{count_cons}

@@ -1,29 +1,36 @@
 -- The regions of a stripe, made from the last lane to the first.
 use Rattle.page_base.specs.Lanes.{LaneSeen}
+use Rattle.page_base.specs.Pages.{stripe_of}
+use Rattle.page_base.specs.declared.keys.RegionShape.{RegionShape}
+use Rattle.page_model.specs.Setups.{is_page_of}
+use Rattle.std.proofs.lemmas.Bool.{and_parts}
 use Rattle.std.proofs.lemmas.Option.{slice_get-map}
 use Rattle.std.specs.Option.{option_map}
 use Rattle.page_model.specs.Core.{Core, Home, RegionSeen}
 use Rattle.page_model.specs.Readers.{IsHere}
 use Rattle.stripe_core.specs.Parts.{place_of, region_seen}
-use Rattle.std.proofs.Common.{List, None, Option, Some, slice_get, map, Vec, [], ap, append_assoc, arith, length, length-append, refl, reverse, sym, ℕ, ◌+◌, ◌++◌, ◌∙◌, ◌∷◌, ◌≡◌}
+use Rattle.std.proofs.Common.{List, None, Option, Some, slice_get, map, [], ap, append_assoc, arith, inl, inr, length, length-append, nat_lt, refl, reverse, suc, sym, true, zero, ℕ, ◌+◌, ◌++◌, ◌==◌, ◌∙◌, ◌∷◌, ◌≡◌, ◌⊎◌}
 use Rattle.std.proofs.lemmas.List.{append-nil, reverse-append, reverse-reverse}
-use Rattle.std.specs.declared.alloc.Global.{Global}
 use Rattle.stripe_core.specs.declared.region.Region.{Region}
 use Rattle.stripe_core.specs.InsideMade.{region_made, regions_made}
+use Rattle.stripe_core.specs.Configs.{setup_of}
+use Rattle.stripe_core.specs.InsideReadFaults.{AreShares, HasPagesOf, ReadFaultsSeen, in_share}
+use Rattle.stripe_core.specs.declared.config.StripeConfig.{StripeConfig}
+use Rattle.stripe_core.specs.declared.read_faults.Share.{Share}
 
 -- the regions so far, reversed, are those of the lanes that have left
-pub record MadeSoFar {S : Type 0} (all now : List S) (given left : List (Vec ℕ Global)) (regions : List (Region S)) : Type 0 where
+pub record MadeSoFar {S : Type 0} (all now : List S) (given left : List ReadFaultsSeen) (regions : List (Region S)) : Type 0 where
   pub rest : List S
-  pub used : List (Vec ℕ Global)
+  pub used : List ReadFaultsSeen
   pub lanes : all ≡ now ++ rest
   pub faults : given ≡ left ++ used
   pub made : regions ≡ reverse (regions_made rest used)
   pub one_each : length left ≡ length now
 
-pub made_none : {S : Type 0} (all : List S) (given : List (Vec ℕ Global)) (regions : List (Region S)) → regions ≡ [] → length given ≡ length all → MadeSoFar all all given given regions
+pub made_none : {S : Type 0} (all : List S) (given : List ReadFaultsSeen) (regions : List (Region S)) → regions ≡ [] → length given ≡ length all → MadeSoFar all all given given regions
 made_none all given regions e n = record { rest = []; used = []; lanes = sym (append-nil all); faults = sym (append-nil given); made = e; one_each = n }
 
-pub made_more : {S : Type 0} (all now fewer : List S) (given left less : List (Vec ℕ Global)) (regions : List (Region S)) (s : S) (f : Vec ℕ Global) → MadeSoFar all now given left regions → now ≡ fewer ++ s ∷ [] → left ≡ less ++ f ∷ []
+pub made_more : {S : Type 0} (all now fewer : List S) (given left less : List ReadFaultsSeen) (regions : List (Region S)) (s : S) (f : ReadFaultsSeen) → MadeSoFar all now given left regions → now ≡ fewer ++ s ∷ [] → left ≡ less ++ f ∷ []
     → MadeSoFar all fewer given less (regions ++ region_made s f ∷ [])
 made_more all now fewer given left less regions s f m e i = record {
   rest = s ∷ m.rest;
@@ -42,12 +49,38 @@ nothing : {A : Type 0} (xs : List A) → length xs ≡ 0 → xs ≡ []
 nothing [] e = refl
 nothing (x ∷ xs) e = absurd (omega (arith, e))
 
-pub made_all : {S : Type 0} (all now : List S) (given left : List (Vec ℕ Global)) (regions : List (Region S)) → MadeSoFar all now given left regions → length now ≡ 0 → reverse regions ≡ regions_made all given
+pub made_all : {S : Type 0} (all now : List S) (given left : List ReadFaultsSeen) (regions : List (Region S)) → MadeSoFar all now given left regions → length now ≡ 0 → reverse regions ≡ regions_made all given
 made_all all now given left regions m e =
     let none : left ≡ [] = nothing left (m.one_each ∙ e) in
     let all_is : all ≡ m.rest = m.lanes ∙ ap (λ x. x ++ m.rest) (nothing now e) in
     let given_is : given ≡ m.used = m.faults ∙ ap (λ x. x ++ m.used) none in
     ap reverse m.made ∙ (reverse-reverse (regions_made m.rest m.used) ∙ sym (ap (λ x. regions_made x given) all_is ∙ ap (regions_made m.rest) given_is))
+
+-- ---- the read faults of each region, made from the first region to the last
+
+push_cases : {A : Type 0} (xs : List A) (x y : A) (i : ℕ) → slice_get (xs ++ x ∷ []) i ≡ Some y → (slice_get xs i ≡ Some y) ⊎ ((i ≡ length xs) × (y ≡ x))
+push_cases [] x y zero e = inr (refl, cc)
+push_cases [] x y (suc i) e = absurd (cc)
+push_cases (z ∷ xs) x y zero e = inl e
+push_cases (z ∷ xs) x y (suc i) e = elim (push_cases xs x y i e) [ inl h ↦ inl h | inr h ↦ inr (ap suc h.0, h.1) ]
+
+pub no_shares : (c : StripeConfig) (faults : List ReadFaultsSeen) → faults ≡ [] → AreShares c faults
+no_shares c [] e r f is = absurd cc
+no_shares c (x ∷ faults) e r f is = absurd cc
+
+pub one_more_share : (c : StripeConfig) (faults : List ReadFaultsSeen) (new : ReadFaultsSeen) → AreShares c faults → HasPagesOf c (length faults) new.share → AreShares c (faults ++ new ∷ [])
+one_more_share c faults new all one r f is = elim (push_cases faults new f r is) [
+  | inl before ↦ all r f before
+  | inr here ↦ rw (here.0, here.1) one
+]
+
+pub shared : (c : StripeConfig) (r : ℕ) (shape : RegionShape) (share : Share) → slice_get c.shapes.items r ≡ Some shape
+    → ((p : ℕ) → in_share share p ≡ (stripe_of c.layout.stripes shape.group r p == c.number)) → HasPagesOf c r share
+shared c r shape share is own k at has =
+    let there : slice_get c.shapes.items k.region ≡ Some shape = rw at is in
+    let here : is_page_of (setup_of c []) (Some shape) k ≡ true = sym (ap (λ o. is_page_of (setup_of c []) o k) there) ∙ has in
+    let mine = (and_parts (nat_lt k.page shape.pages) (stripe_of c.layout.stripes shape.group k.region k.page == c.number) here).1 in
+    own k.page ∙ (ap (λ q. stripe_of c.layout.stripes shape.group q k.page == c.number) (sym at) ∙ mine)
 
 -- ---- the lanes handed back, from the last region to the first
 

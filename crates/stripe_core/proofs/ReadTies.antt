@@ -10,9 +10,9 @@ use Rattle.page_base.specs.declared.keys.Key.{Key}
 use Rattle.soft_mmu.specs.declared.entry.PageEntry.{PageEntry}
 use Rattle.soft_mmu.specs.declared.entry.PageEntry.TheVariants.{Absent, Present}
 use Rattle.soft_mmu.specs.Entries.{table_entry, with_entry, HasPage}
-use Rattle.page_buffer.specs.Frames.{FrameSeen, Free, Reserved, resident_key, is_reserved, is_resident, bytes_of, page_of}
+use Rattle.page_buffer.specs.Frames.{FrameSeen, Free, Reserved, resident_key, is_reserved, bytes_of, page_of}
 use Rattle.page_buffer.specs.Frames as frame
-use Rattle.page_buffer.specs.Buffers.{BufferSeen, frame_of, with_frame, filled, is_clean, reserved_frames}
+use Rattle.page_buffer.specs.Buffers.{BufferSeen, frame_of, with_frame, filled, reserved_frames}
 use Rattle.page_model.specs.Core.{Resident}
 use Rattle.page_model.specs.Residents.{is_in}
 use Rattle.stripe_core.specs.Parts.{Table, page_in, page_seen, pages_seen}

@@ -1,5 +1,5 @@
 -- What a change of one page's entry makes of the pages that are seen, where the page keeps its frame.
-use Rattle.std.proofs.Common.{ap, arith, Bool, false, get_or-set_same, get_or-set_other, inl, inr, is_some, length-set, List, None, not, Option, refl, Some, subst, sym, true, ℕ, ◌&&◌, ◌∙◌, ◌≡◌}
+use Rattle.std.proofs.Common.{ap, arith, Bool, false, get_or-set_same, get_or-set_other, inl, inr, is_some, length-set, List, not, Option, refl, Some, subst, sym, true, ℕ, ◌&&◌, ◌∙◌, ◌≡◌}
 use Rattle.stripe_core.specs.InsideParts.{ReadOut}
 use Rattle.std.proofs.lemmas.Bool.{cases_Bool}
 use Rattle.page_base.specs.Pages.{same}

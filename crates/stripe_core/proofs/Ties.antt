@@ -1,6 +1,6 @@
 -- That a change of bits or bytes keeps table, frames and reads tied, and what it makes of the pages that are seen.
 use Rattle.std.proofs.Common.{Bool, List, not, length-set, None, Option, Some, [], ap, arith, cond, drop, false, inl, inr, length, length-append, length-drop, length-take, map, refl, subst, sym, take, true, ℕ, ◌+◌, ◌++◌, ◌-◌, ◌<◌, ◌∙◌, ◌∷◌, ◌≡◌, ◌≤◌}
-use Rattle.std.proofs.lemmas.Bool.{cases_Bool, cases_eq}
+use Rattle.std.proofs.lemmas.Bool.{cases_eq}
 use Rattle.std.proofs.lemmas.Grind.{common_steps}
 use Rattle.std.proofs.lemmas.List.{drop-drop}
 use Rattle.std.specs.Option.{is_some}
@@ -9,8 +9,8 @@ use Rattle.page_base.specs.Pages.{same}
 use Rattle.page_base.specs.declared.keys.Key.{Key}
 use Rattle.soft_mmu.specs.declared.entry.PageEntry.{PageEntry}
 use Rattle.soft_mmu.specs.declared.entry.PageEntry.TheVariants.{Absent, Present}
-use Rattle.soft_mmu.specs.Entries.{table_entry, with_entry, HasPage}
-use Rattle.page_buffer.specs.Frames.{FrameSeen, Free, Reserved, resident_key, is_reserved, is_resident, bytes_of, with_bytes, refilled}
+use Rattle.soft_mmu.specs.Entries.{table_entry}
+use Rattle.page_buffer.specs.Frames.{FrameSeen, Free, Reserved, resident_key, is_reserved, bytes_of, with_bytes, refilled}
 use Rattle.page_buffer.specs.Frames as frame
 use Rattle.page_buffer.specs.Buffers.{BufferSeen, frame_of, with_frame, with_page, is_clean, reserved_frames}
 use Rattle.page_model.specs.Core.{Resident}
@@ -20,7 +20,7 @@ use Rattle.stripe_core.specs.Parts.{Table, page_in, page_seen, pages_seen}
 use Rattle.stripe_core.specs.InsideParts.{ReadOut}
 use Rattle.stripe_core.specs.InsideTied.{Tied, dirt, frame_in, reserved_key}
 use Rattle.stripe_core.proofs.Counted.{count_set, one_if}
-use Rattle.stripe_core.proofs.Keys.{same-true, same_self, entry_set, entry_kept, frame_set, frame_kept, resident_within}
+use Rattle.stripe_core.proofs.Keys.{same-true, same_self, frame_set, frame_kept, resident_within}
 use Rattle.stripe_core.proofs.Looks.{page_key, holds_page}
 
 -- ---- what a change leaves tied

@@ -1,6 +1,5 @@
 -- Which frame's page may leave, by the parts of a stripe.
-use Rattle.std.specs.Prelude.{ℕ, ◌==◌, ◌&&◌, ◌||◌, Bool, false, not, List, slice_get, Option, Some, None, nat_lt}
-use Rattle.page_base.specs.declared.keys.Key.{Key}
+use Rattle.std.specs.Prelude.{ℕ, ◌&&◌, ◌||◌, Bool, false, not, List, slice_get, Option, Some, None, nat_lt}
 use Rattle.page_base.specs.Lanes.{LaneSeen}
 use Rattle.page_buffer.specs.Buffers.{BufferSeen, key_of_frame, is_clean, is_of_region}
 use Rattle.page_model.specs.Core.{LanePlace, writes, is_home_place}

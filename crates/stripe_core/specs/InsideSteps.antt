@@ -7,6 +7,7 @@ use Rattle.page_model.specs.Steps.{on_page, on_region, placed}
 use Rattle.stripe_core.specs.declared.region.Lane.{Lane}
 use Rattle.stripe_core.specs.declared.region.Region.{Region}
 use Rattle.stripe_core.specs.InsideMade.{IsFailed}
+use Rattle.stripe_core.specs.InsideReadFaults.{in_share}
 
 -- the page protected
 abbrev pub page_protected : Core → Key → Core
@@ -43,9 +44,9 @@ eviction_counted c =
 
 -- ---- the regions as they are kept
 
--- the page has its place among the region's read faults
+-- the page is the stripe's, and has its place among the region's read faults
 abbrev pub HasReadFault : {S : Type 0} → List (Region S) → Key → Type 0
-HasReadFault {S} gs k = (g : Region S) → slice_get gs k.region ≡ Some g → k.page < length g.read_faults.items
+HasReadFault {S} gs k = (g : Region S) → slice_get gs k.region ≡ Some g → (k.page < length g.read_faults.numbers) × (in_share g.read_faults.share k.page ≡ true)
 
 -- the region's lane is home, with this number of a failed read of the page
 abbrev pub FailsAt : {S : Type 0} → List (Region S) → Key → S → ℕ → List (Region S) → Type 0

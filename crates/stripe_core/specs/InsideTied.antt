@@ -20,6 +20,7 @@ use Rattle.stripe_core.specs.declared.region.Region.{Region}
 use Rattle.stripe_core.specs.Configs.{setup_of}
 use Rattle.stripe_core.specs.Parts.{Table}
 use Rattle.stripe_core.specs.InsideParts.{ReadOut}
+use Rattle.stripe_core.specs.InsideReadFaults.{HasPagesOf}
 use Rattle.stripe_core.specs.InsideWaiting.{WaitingSeen, LostWithin}
 
 -- the frame that an entry names
@@ -66,7 +67,8 @@ pub record IsSized {S : Type 0} (c : StripeConfig) (lanes : List LaneSeen) (t : 
   pub frames : length b.frames ≡ quota (setup_of c lanes)
   pub capacity : q.capacity ≡ c.faults
   pub regions : length gs ≡ length c.shapes.items
-  pub faults : (r : ℕ) (g : Region S) → slice_get gs r ≡ Some g → length g.read_faults.items ≡ pages_of (slice_get c.shapes.items r)
+  pub faults : (r : ℕ) (g : Region S) → slice_get gs r ≡ Some g → length g.read_faults.numbers ≡ pages_of (slice_get c.shapes.items r)
+  pub shares : (r : ℕ) (g : Region S) → slice_get gs r ≡ Some g → HasPagesOf c r g.read_faults.share
   pub on : marks.on ≡ on_mark (quota (setup_of c lanes)) c.high
   pub off : marks.off ≡ off_mark (quota (setup_of c lanes)) c.low
   pub groups : b.regions ≡ length c.shapes.items

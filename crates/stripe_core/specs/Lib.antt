@@ -1,5 +1,6 @@
 pub mod Answers
 pub mod Configs
+pub mod InsideReadFaults
 pub mod InsideMade
 pub mod Parts
 pub mod InsideParts

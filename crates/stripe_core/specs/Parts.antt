@@ -36,7 +36,7 @@ place_of seen (lane.Reading key at why frame) = Reading key at why
 place_of seen (lane.Writing key at) = Writing key at
 
 abbrev pub region_seen : {S : Type 0} → (S → LaneSeen) → Region S → RegionSeen
-region_seen seen g = record { place = place_of seen g.lane; closing = g.closing; unmapped = g.unmapped; read_faults = g.read_faults.items }
+region_seen seen g = record { place = place_of seen g.lane; closing = g.closing; unmapped = g.unmapped; read_faults = g.read_faults.numbers }
 
 abbrev pub core_of : {S : Type 0} → (S → LaneSeen) → Setup → Table → BufferSeen → List Raise → List (Region S) → Bool → Counts → ℕ → Core
 core_of seen setup t b queue gs evicting counts events = record {

@@ -16,6 +16,7 @@ mod evictions;
 mod faults;
 mod oldest;
 mod openings;
+mod read_faults;
 mod readers;
 mod reads;
 mod region;

@@ -1,6 +1,6 @@
 //! The oldest page that may leave: that which is the oldest of its region, or of its region's clean pages, for the region
 //! whose is the oldest. It looks at one page or two of each region, however many are resident.
-ghost use Rattle.std.specs.Prelude.{◌≡◌, ◌<◌, ◌≤◌, length, find, IfSome};
+ghost use Rattle.std.specs.Prelude.{◌≡◌, ◌<◌, ◌≤◌, length, find};
 ghost use Rattle.page_base.specs.declared.limits.TheConstants.{MOST_REGIONS};
 ghost use Rattle.stripe_core.specs.InsideOldest.{goes_of, may_go};
 ghost use Rattle.stripe_core.specs.Parts.{place_of};

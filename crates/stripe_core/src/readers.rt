@@ -63,7 +63,7 @@ impl<S: Store> Stripe<S> {
         requires page { has_page self.now.setup key ≡ true }
         ensures exact { result ≡ core.read_fault self.now key }
     {
-        self.regions[key.region as usize].read_faults[key.page as usize]
+        self.regions[key.region as usize].read_faults.get(key.page)
     }
 
     /// Whether a fill brought the resident pages to the high mark, and no eviction brought them to the low one since.

@@ -124,7 +124,7 @@ fn fail_read<S>(regions: &mut Vec<Region<S>>, key: Key, lane: S, faults: u64) ->
     ensures lane { (g : Region S) → slice_get regions.old.items key.region ≡ Some g → result ≡ g.lane }
 {
     let region = &mut regions[key.region as usize];
-    region.read_faults[key.page as usize] = faults;
+    region.read_faults.set(key.page, faults);
     mem::replace(&mut region.lane, Lane::Home(lane))
 }
 

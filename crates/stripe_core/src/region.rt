@@ -6,6 +6,7 @@ ghost use Rattle.page_model.specs.Core as core;
 ghost use Rattle.stripe_core.specs.declared.region.Region.{Region};
 ghost use Rattle.stripe_core.specs.InsideSteps.{Swaps};
 
+use crate::read_faults::ReadFaults;
 use page_base::{Key, Why};
 use std::mem;
 use store_trait::Store;
@@ -37,8 +38,7 @@ pub(crate) struct Region<S> {
     pub(crate) lane: Lane<S>,
     pub(crate) closing: bool,
     pub(crate) unmapped: bool,
-    /// By page: the lane's count at its last failed read, 0 where there is none.
-    pub(crate) read_faults: Vec<u64>,
+    pub(crate) read_faults: ReadFaults,
 }
 
 impl<S: Store> Lane<S> {

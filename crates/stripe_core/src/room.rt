@@ -1,15 +1,16 @@
 //! The room of a stripe: all memory that it ever takes.
 ghost use Rattle.std.specs.Prelude.{◌≡◌, ◌<◌, ◌≤◌, [], length, map, vec_capacity, IfOk};
-ghost use Rattle.page_base.specs.declared.keys.RegionShape.{RegionShape};
 ghost use Rattle.page_model.specs.Setups.{quota};
 ghost use Rattle.soft_mmu.specs.Entries.{no_pages};
 ghost use Rattle.stripe_core.specs.Configs.{CanMake};
 ghost use Rattle.stripe_core.specs.InsideMade.{buffer_made, regions_made, no_faults};
+ghost use Rattle.stripe_core.specs.InsideReadFaults.{AreShares};
 
 use crate::config::StripeConfig;
+use crate::read_faults::{ReadFaults, Share};
 use crate::region::{Lane, Region};
 use crate::waiting_faults::WaitingFaults;
-use page_base::{List, OutOfMemory, RegionShape};
+use page_base::OutOfMemory;
 use page_buffer::PageBuffer;
 use soft_mmu::PageTable;
 use std::alloc::Global;
@@ -19,7 +20,7 @@ pub(crate) struct Parts {
     pub(crate) table: PageTable,
     pub(crate) buffer: PageBuffer,
     pub(crate) queue: WaitingFaults,
-    pub(crate) faults: Vec<Vec<u64>>,
+    pub(crate) faults: Vec<ReadFaults>,
 }
 
 impl Parts {
@@ -29,12 +30,13 @@ impl Parts {
         ensures buffer { IfOk result (λ p. p.buffer ≡ buffer_made config.now) }
         ensures raises { IfOk result (λ p. p.queue.raises ≡ []) }
         ensures capacity { IfOk result (λ p. p.queue.capacity ≡ config.now.faults) }
-        ensures faults { IfOk result (λ p. map (λ v. v.items) p.faults.items ≡ map no_faults config.now.shapes.items) }
+        ensures none { IfOk result (λ p. map (λ f. f.numbers) p.faults.items ≡ map no_faults config.now.shapes.items) }
+        ensures shares { IfOk result (λ p. AreShares config.now p.faults.items) }
     {
         let quota = config.layout.quota(config.number);
         let table = PageTable::new(alloc, &config.shapes)?;
         let queue = WaitingFaults::new(alloc, config.faults)?;
-        let faults = faults_of(alloc, &config.shapes)?;
+        let faults = faults_of(alloc, config)?;
         let regions = config.shapes.len() as u32;
         let buffer = PageBuffer::new(alloc, quota, config.layout.page_size(), regions)?;
         Ok(Parts {
@@ -46,14 +48,17 @@ impl Parts {
     }
 }
 
-/// For each region a zero for each of its pages.
-fn faults_of(alloc: Global, shapes: &List<RegionShape>) -> Result<Vec<Vec<u64>>, OutOfMemory>
-    ensures { IfOk result (λ v. map (λ x. x.items) v.items ≡ map no_faults shapes.now.items) }
+/// For each region that no read of its pages failed.
+fn faults_of(alloc: Global, config: &StripeConfig) -> Result<Vec<ReadFaults>, OutOfMemory>
+    requires can { (lanes : _) × CanMake config.now lanes }
+    ensures none { IfOk result (λ v. map (λ f. f.numbers) v.items ≡ map no_faults config.now.shapes.items) }
+    ensures shares { IfOk result (λ v. AreShares config.now v.items) }
 {
-    let mut faults = Vec::new(alloc);
-    for shape in shapes.as_slice() {
-        let pages = vec![in alloc; 0u64; shape.pages as usize].map_err(|_| OutOfMemory)?;
-        faults.push(pages).map_err(|_| OutOfMemory)?;
+    let mut faults = Vec::with_capacity(alloc, config.shapes.len())?;
+    for shape in config.shapes.as_slice() {
+        let region = faults.len() as u16;
+        let share = Share::of(&config.layout, config.number, region, shape.group);
+        faults.push_reserved(ReadFaults::none(alloc, share, shape.pages)?);
     }
     Ok(faults)
 }
@@ -63,7 +68,7 @@ fn faults_of(alloc: Global, shapes: &List<RegionShape>) -> Result<Vec<Vec<u64>>,
 pub(crate) fn regions_of<S>(
     room: Vec<Region<S>>,
     mut lanes: Vec<S>,
-    mut faults: Vec<Vec<u64>>,
+    mut faults: Vec<ReadFaults>,
 ) -> (Vec<Region<S>>, Vec<S>)
     requires empty { room.items ≡ [] }
     requires fits { length lanes.items ≤ vec_capacity room }

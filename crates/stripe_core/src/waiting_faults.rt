@@ -1,7 +1,7 @@
 //! The faults of a stripe that wait, with a count that bounds those whose protected page has left.
 //!
 //! While that count is zero, each fault for a protected page can be served, and no fault is stale but in a closing region.
-ghost use Rattle.std.specs.Prelude.{◌≡◌, [], length, false, IsSome, Some, None, IsErr, OnOk, OnErr, IfOk, ◌↔◌, ◌≤◌, ◌<◌};
+ghost use Rattle.std.specs.Prelude.{◌≡◌, [], length, IsSome, Some, None, IsErr, OnOk, OnErr, IfOk, ◌↔◌, ◌≤◌, ◌<◌};
 ghost use Rattle.fault_queue.specs.Queues.{pending_why, without, AreOnce};
 ghost use Rattle.stripe_core.specs.InsideWaiting.{raised, with_lost, dropped};
 

@@ -1,4 +1,3 @@
-use Rattle.std.proofs.Common.{sym}
 use Rattle.stripe_core.proofs.stripe.Stripe.drop_raise.Goals as goal
 
 pub returns-clause-stands : goal.returns-clause-stands

@@ -3,7 +3,7 @@ use Rattle.std.specs.Prelude.{vec_capacity}
 use Rattle.std.proofs.lemmas.Option.{slice_get_within}
 use Rattle.page_buffer.specs.Frames.{Free}
 use Rattle.page_buffer.specs.Buffers.{frame_of, with_frame}
-use Rattle.page_model.specs.Core.{Core, RegionSeen, Home, is_reading}
+use Rattle.page_model.specs.Core.{Core, is_reading}
 use Rattle.page_model.specs.Core as core
 use Rattle.page_model.specs.Setups.{has_page}
 use Rattle.page_model.specs.Steps.{on_region, read_missed, read_failed}
@@ -15,7 +15,7 @@ use Rattle.stripe_core.specs.InsideTied.{Tied, CountsWithin}
 use Rattle.stripe_core.proofs.Ended.{ended, failed_seen, page_within}
 use Rattle.stripe_core.proofs.Lanes.{passing, changed_seen, reads_changed}
 use Rattle.stripe_core.proofs.ReadTies.{is_kept, fail_tied, pages_kept}
-use Rattle.stripe_core.proofs.Sizes.{resized, rezoned, framed}
+use Rattle.stripe_core.proofs.Sizes.{resized, refaulted, framed}
 use Rattle.stripe_core.proofs.stripe.Stripe.fail_step.Goals as goal
 
 pub fail_read-requires : goal.fail_read-requires
@@ -25,7 +25,12 @@ fail_read-requires g c =
     let out = passing g.S.Store.seen s.regions.items r (λ p. core.reads p c.args.key) (ap (λ (v : Core). is_reading v c.args.key) c.self.view_is ∙ c.requires.reading) in
     record {
       region = slice_get_within s.regions.items r out.region out.is;
-      page = λ x is. let size = c.self.invariant.1.faults r x is in let within = page_within (setup_of s.config.value (map g.S.Store.seen s.lanes.value.items)) c.args.key (ap (λ (v : Core). has_page v.setup c.args.key) c.self.view_is ∙ c.requires.page) in omega (arith, size, within);
+      page =
+          λ x is.
+          let size = c.self.invariant.1.faults r x is in
+          let has = ap (λ (v : Core). has_page v.setup c.args.key) c.self.view_is ∙ c.requires.page in
+          let within = page_within (setup_of s.config.value (map g.S.Store.seen s.lanes.value.items)) c.args.key has in
+          (omega (arith, size, within), c.self.invariant.1.shares r x is c.args.key refl has);
     }
 
 pub into_read-read-requires : goal.into_read-read-requires
@@ -51,7 +56,7 @@ invariant_of-self g c =
     let done = c.fail_read.ensures.regions out.region out.is in
     let none : read_of done.0.lane ≡ None = ap read_of done.1.place in
     let tied : Tied s.table (with_frame s.buffer f Free) (reads_of (slice_set s.regions.items r done.0)) = rw (reads_changed s.regions.items r done.0, none) (fail_tied s.table s.buffer (reads_of s.regions.items) c.args.key f c.self.invariant.0 kept) in
-    let sized = rezoned r out.region done.0 out.is (ap length done.1.read_faults ∙ length-set out.region.read_faults.items c.args.key.page c.faults-faults.result) (resized (with_frame s.buffer f Free) refl refl (framed s.buffer f Free) c.self.invariant.1) in
+    let sized = refaulted r out.region done.0 out.is done.1.share (ap length done.1.read_faults ∙ length-set out.region.read_faults.numbers c.args.key.page c.faults-faults.result) (resized (with_frame s.buffer f Free) refl refl (framed s.buffer f Free) c.self.invariant.1) in
     let room : length (slice_set s.regions.items r done.0) ≤ vec_capacity s.home = let n = length-set s.regions.items r done.0 in omega (arith, n, c.self.invariant.3) in
     let counts : CountsWithin (record s.counts { faults = s.counts.faults + 1 }) (s.events + 1) = omega (arith, c.self.invariant.4) in
     rw (c.unreserve.ensures.free, done.2) (tied, sized, c.self.invariant.2, room, counts)

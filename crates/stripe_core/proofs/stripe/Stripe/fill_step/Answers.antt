@@ -8,10 +8,10 @@ use Rattle.page_base.specs.declared.keys.Key.{Key}
 use Rattle.page_buffer.specs.Frames.{page_of}
 use Rattle.page_buffer.specs.Frames as frame
 use Rattle.page_buffer.specs.Buffers.{frame_of}
-use Rattle.page_model.specs.Core.{Core, RegionSeen, Home, place_passes, is_reading}
+use Rattle.page_model.specs.Core.{Core, Home, is_reading}
 use Rattle.page_model.specs.Core as core
 use Rattle.page_model.specs.Setups.{has_page}
-use Rattle.page_model.specs.Steps.{on_region, placed}
+use Rattle.page_model.specs.Steps.{placed}
 use Rattle.page_model.specs.Steps as step
 use Rattle.page_model.specs.Core.{why_out, frames_held}
 use Rattle.page_buffer.specs.Buffers.{BufferSeen}

@@ -1,12 +1,11 @@
-use Rattle.std.proofs.Common.{◌≡◌, ◌∙◌, ◌<◌, ◌%◌, ◌||◌, ◌&&◌, not, ap, sym, map, true}
-use Rattle.std.specs.Prelude.{nat_lt}
+use Rattle.std.proofs.Common.{◌≡◌, ◌∙◌, ap, sym, map, true}
 use Rattle.std.specs.List.{find}
 use Rattle.page_base.specs.declared.keys.Raise.{Raise}
 use Rattle.page_model.specs.Core.{Core}
 use Rattle.page_model.specs.Core as core
 use Rattle.page_model.specs.Setups.{has_page}
 use Rattle.stripe_core.specs.Configs.{setup_of}
-use Rattle.stripe_core.specs.InsideServing.{in_closing, is_ready}
+use Rattle.stripe_core.specs.InsideServing.{in_closing}
 use Rattle.fault_queue.specs.Queues.{passes_by}
 use Rattle.stripe_core.proofs.Sizes.{all_at}
 use Rattle.stripe_core.proofs.Serving.{region_fits, by_closing}

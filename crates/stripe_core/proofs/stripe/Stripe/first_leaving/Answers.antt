@@ -1,5 +1,4 @@
-use Rattle.std.proofs.Common.{None, Option, Some, ap, sym, ◌≡◌, ◌∙◌, find, length, arith}
-use Rattle.page_base.specs.declared.keys.Key.{Key}
+use Rattle.std.proofs.Common.{None, Some, ap, sym, ◌≡◌, ◌∙◌, find, arith}
 use Rattle.soft_mmu.specs.Entries.{table_entry}
 use Rattle.page_model.specs.Core.{Core, can_leave}
 use Rattle.stripe_core.specs.InsideFrameStates.{leaves}

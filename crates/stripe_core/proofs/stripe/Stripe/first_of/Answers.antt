@@ -1,4 +1,4 @@
-use Rattle.std.proofs.Common.{None, Option, Some, ap, find, refl, sym, ◌==◌, ◌≡◌, ◌∙◌}
+use Rattle.std.proofs.Common.{None, Some, ap, find, refl, sym, ◌==◌, ◌≡◌, ◌∙◌}
 use Rattle.page_base.specs.declared.keys.Key.{Key}
 use Rattle.soft_mmu.specs.Entries.{table_entry}
 use Rattle.page_buffer.specs.Buffers.{is_of_region}

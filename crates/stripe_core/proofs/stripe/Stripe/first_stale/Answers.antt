@@ -2,7 +2,7 @@ use Rattle.std.proofs.Common.{◌≡◌, ◌∙◌, ap, sym, arith}
 use Rattle.std.specs.List.{find}
 use Rattle.page_model.specs.Core.{Core}
 use Rattle.page_model.specs.Core as core
-use Rattle.stripe_core.specs.InsideServing.{in_closing, is_ready}
+use Rattle.stripe_core.specs.InsideServing.{in_closing}
 use Rattle.stripe_core.proofs.Looks.{at_now}
 use Rattle.stripe_core.proofs.Serving.{none_stale}
 use Rattle.stripe_core.proofs.stripe.Stripe.first_stale.Goals as goal

@@ -1,4 +1,4 @@
-use Rattle.std.proofs.Common.{arith, ◌<◌, length, map, ap, is_some, not, refl, sym, ◌&&◌, ◌==◌, ◌∙◌, ◌≡◌}
+use Rattle.std.proofs.Common.{arith, length, map, ap, not, refl, ◌&&◌, ◌==◌, ◌∙◌, ◌≡◌}
 use Rattle.page_base.specs.declared.keys.Raise.{Raise}
 use Rattle.page_model.specs.Core as core
 use Rattle.std.specs.List.{list_any}

@@ -5,7 +5,7 @@ use Rattle.soft_mmu.specs.Entries.{table_entry}
 use Rattle.page_buffer.specs.Frames.{Reserved, resident_key}
 use Rattle.page_buffer.specs.Buffers.{with_frame}
 use Rattle.fault_queue.specs.Queues.{pending_why, without, is_of}
-use Rattle.page_model.specs.Core.{Core, RegionSeen, Reading, is_home_place, place_passes, why_or_read}
+use Rattle.page_model.specs.Core.{Core, Reading, is_home_place, place_passes, why_or_read}
 use Rattle.page_model.specs.Core as core
 use Rattle.page_model.specs.Setups.{quota}
 use Rattle.page_model.specs.Steps.{on_region, placed, start_read}

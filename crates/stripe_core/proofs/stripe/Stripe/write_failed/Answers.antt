@@ -1,7 +1,6 @@
 use Rattle.std.proofs.Common.{ap, arith, subst, ◌+◌, ◌<◌, ◌^◌, ◌∙◌, ◌≡◌}
 use Rattle.page_model.specs.Core.{Core}
 use Rattle.page_model.specs.Steps as step
-use Rattle.page_model.specs.Steps.{on_region, placed}
 use Rattle.stripe_core.specs.Trips.{TripSeen}
 use Rattle.stripe_core.proofs.Writing.{is_write_out}
 use Rattle.stripe_core.proofs.stripe.Stripe.write_failed.Goals as goal
