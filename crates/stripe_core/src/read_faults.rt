@@ -2,7 +2,7 @@
 //!
 //! Blocks of `group` pages go round the stripes, so in each turn one block is the stripe's, always at the same place. What must
 //! stay true when this file is changed: `own` has one number for each own page, in order of page.
-ghost use Rattle.std.specs.Prelude.{◌≡◌, ◌==◌, ◌<◌, ◌≤◌, ◌/◌, ◌%◌, ◌+◌, ℕ, length, replicate, slice_index, slice_set, true, IfOk};
+ghost use Rattle.std.specs.Prelude.{◌≡◌, ◌==◌, ◌<◌, ◌≤◌, ℕ, length, replicate, slice_index, slice_set, true, IfOk};
 ghost use Rattle.page_base.specs.Pages.{stripe_of};
 
 use page_base::{Layout, OutOfMemory};
