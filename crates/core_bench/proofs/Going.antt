@@ -16,7 +16,7 @@ use Rattle.stripe_core.specs.declared.answers.Look.{Look}
 use Rattle.stripe_core.specs.declared.answers.Look.TheVariants as look
 use Rattle.stripe_core.specs.declared.answers.Raise.{Raise}
 use Rattle.stripe_core.specs.declared.answers.Raise.TheVariants as raise
-use Rattle.core_bench.specs.Hands.{CoreGoesOn}
+use Rattle.core_bench.specs.Hands.{CoreGoesOn, Stands}
 
 pub same_goes : (c d : Core) → d ≡ c → CoreGoesOn c d
 same_goes c d e = subst (CoreGoesOn c) (sym e) (record { setup = refl; later = λ h s. record { history = h; is = s; flight = λ r. refl } })
@@ -55,3 +55,6 @@ open_later s h g o t flight x = record { before = x.before; is = flight t.key.re
 
 pub taken_later : (s : Setup) (h g : History Entry) (k : Key) (bytes : List ℕ) → ((r : ℕ) → in_flight g r ≡ in_flight h r) → WritesTaken s h k bytes → WritesTaken s g k bytes
 taken_later s h g k bytes flight x = subst (λ f. OnTrue (is_told s k) (bytes ≡ flat s (before_of f) k)) (sym (flight k.region)) x
+
+pub stands_still : (c d : Core) → CoreGoesOn c d → Stands c → Stands d
+stands_still c d on s = let l = on.later s.history s.is in record { history = l.history; is = l.is }

@@ -1,5 +1,5 @@
 pub mod Going
-pub mod OneRegion
+pub mod Regions
 pub mod Places
 pub mod Resting
 pub mod Kept

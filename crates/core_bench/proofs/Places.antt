@@ -55,5 +55,5 @@ pub only : {X : Type 0} (xs ys : List X) (x : X) → xs ≡ ys ++ x ∷ [] → l
 only xs [] x e n = ap (λ zs. slice_get zs 0) e
 only xs (y ∷ ys) x e n = let one : length ((y ∷ ys) ++ x ∷ []) ≡ 1 = sym (ap length e) ∙ n in absurd (omega (arith, one, length-append (y ∷ ys) (x ∷ [])))
 
-pub alike : (p q n m s t : ℕ) → p ≡ q → n ≡ m → s ≡ t → memory_origin 0 p n s 0 ≡ memory_origin 0 q m t 0
-alike p q n m s t a b c = cc (a, b, c)
+pub alike : (r p q n m s t : ℕ) → p ≡ q → n ≡ m → s ≡ t → memory_origin r p n s 0 ≡ memory_origin r q m t 0
+alike r p q n m s t a b c = cc (a, b, c)

@@ -1,5 +1,5 @@
 -- What is known of a stripe with nothing in flight, and how it comes to be so again.
-use Rattle.std.proofs.Common.{◌≡◌, ◌<◌, ◌∷◌, ◌∙◌, ◌==◌, if◌then◌else◌, Bool, ℕ, Option, None, Some, true, false, is_none, refl, ap}
+use Rattle.std.proofs.Common.{◌≡◌, ◌<◌, ◌∷◌, ◌∙◌, ◌==◌, if◌then◌else◌, Bool, ℕ, Option, None, Some, true, false, is_none, refl, sym, ap, subst}
 use Rattle.histories.specs.Histories.{History}
 use Rattle.page_base.specs.declared.keys.Key.{Key}
 use Rattle.page_model.specs.declared.entry.Cause.{Cause}
@@ -31,3 +31,15 @@ read_ends h k none r = ends k r (record { before = h; owner = 0; key = k; writes
 pub write_ends : (h g : History Entry) (k j : Key) (why : Cause) → k ≡ j → ((r : ℕ) → in_flight h r ≡ None)
     → ((r : ℕ) → in_flight g r ≡ in_flight ((0, entry.StartWrite k why) ∷ h) r) → (r : ℕ) → ended j r (in_flight g r) ≡ None
 write_ends h g k j why same none flight r = ends j r (record { before = h; owner = 0; key = k; writes = true }) (in_flight h r) (in_flight g r) same (none r) (flight r)
+
+-- where a region's lane is home, none of its pages is being written
+pub idle : (c : core.Core) (k : Key) (r : ℕ) → k.region ≡ r → core.is_home c r ≡ true → core.is_writing c k ≡ false
+idle c k r same home = go (core.region_at c k.region) (subst (λ q. core.is_home c q ≡ true) (sym same) home) where
+  place : (p : core.LanePlace) → core.is_home_place p ≡ true → core.writes p k ≡ false
+  place (core.Home lane) e = refl
+  place (core.Reading j at why) e = absurd cc
+  place (core.Writing j at) e = absurd cc
+
+  go : (g : Option core.RegionSeen) → core.place_passes core.is_home_place g ≡ true → core.place_passes (λ p. core.writes p k) g ≡ false
+  go None e = refl
+  go (Some g) e = place g.place e

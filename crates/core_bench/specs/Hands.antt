@@ -1,20 +1,27 @@
 -- A stripe that is driven by hand.
-use Rattle.std.specs.Prelude.{ℕ, true, ◌≤◌, [], ◌∷◌, None, ◌≡◌}
-use Rattle.page_base.specs.declared.limits.TheConstants.{LEAST_PAGE_SIZE, MOST_PAGE_SIZE}
+use Rattle.std.specs.Prelude.{ℕ, true, ◌<◌, List, slice_get, None, Some, ◌≡◌}
+use Rattle.page_base.specs.Lanes.{LaneSeen}
 use Rattle.histories.specs.Histories.{History}
+use Rattle.page_base.specs.declared.keys.Key.{Key}
 use Rattle.page_model.specs.declared.entry.Entry.{Entry}
 use Rattle.page_model.specs.InFlight.{in_flight}
-use Rattle.page_model.specs.Setups.{Setup}
+use Rattle.page_model.specs.Setups.{Setup, has_page, is_writable}
 use Rattle.page_model.specs.Core.{Core}
 use Rattle.page_model.specs.Stands.{StandsFor}
+use Rattle.store_trait.specs.Memory.{memory_origin}
 
--- the stripe is the only one, and has one region of so many pages, which may be stored to
-pub record IsOneRegion (s : Setup) (pages : ℕ) : Type 0 where
-  pub stripes : s.stripes ≡ 1
-  pub number : s.number ≡ 0
-  pub shapes : s.shapes ≡ record { pages = pages; group = 1; writable = true } ∷ []
-  pub large_pages : LEAST_PAGE_SIZE ≤ s.page_size
-  pub small_pages : s.page_size ≤ MOST_PAGE_SIZE
+-- the stripe has so many pages of region r, which may be stored to
+pub record HasRegion (s : Setup) (r pages : ℕ) : Type 0 where
+  pub page : (page : ℕ) → page < pages → has_page s (record { region = r; page = page }) ≡ true
+  pub writable : is_writable s r ≡ true
+
+-- each page of the stripe may be stored to
+abbrev pub IsAllWritable : Setup → Type 0
+IsAllWritable s = (k : Key) → has_page s k ≡ true → is_writable s k.region ≡ true
+
+-- by region, lanes of a stripe that is the only one, over regions of so many pages in memory
+pub record AreMemoryLanes {S : Type 0} (seen : S → LaneSeen) (pages page_size : ℕ) (lanes : List S) : Type 0 where
+  pub each : (r : ℕ) (lane : S) → slice_get lanes r ≡ Some lane → (seen lane).origin ≡ memory_origin r pages page_size 1 0
 
 -- the stripe stands for a history
 pub record Stands (c : Core) : Type 0 where

@@ -6,17 +6,15 @@ ghost use Rattle.page_model.specs.Core.{next};
 ghost use Rattle.page_model.specs.Events.{CanStartWrite};
 ghost use Rattle.page_model.specs.Setups.{has_page, is_writable};
 ghost use Rattle.page_model.specs.declared.seen.Next.TheVariants as serve;
-ghost use Rattle.core_bench.specs.Hands.{CoreGoesOn, IsAtRest, Stands};
+ghost use Rattle.core_bench.specs.Hands.{CoreGoesOn, IsAllWritable, IsAtRest, Stands};
 
 use crate::asked::may_raise;
+use crate::meanwhile::{Meanwhile, Reopen};
 use page_base::{Key, LEAST_PAGE_SIZE, Why};
-use page_model::events::service_knows;
-use page_model::{Cause, Next};
+use page_model::events::{picks_know, service_knows};
+use page_model::{Cause, Next, Pick};
 use store_trait::Store;
 use stripe_core::{Look, Raise, Stripe};
-
-/// The byte of a page that is stored to while a write of the page is out.
-pub const PLACE: u32 = 5;
 
 /// Lets a page wait, where it may.
 pub fn raise_at<S: Store>(stripe: &mut Stripe<S>, key: Key, why: Why) -> Option<Raise>
@@ -94,35 +92,15 @@ pub fn read_in<S: Store>(stripe: &mut Stripe<S>, scratch: &mut [u8])
     }
 }
 
-/// Stores to `PLACE` of a page that is being written, where a byte is given, and tells what the store finds: the page is
-/// protected, waits to be opened, is opened, and is stored to.
-fn reopen<S: Store>(stripe: &mut Stripe<S>, key: Key, byte: Option<u8>) -> Option<Look>
-    requires few { stripe.old.events + 4 ≤ 2 ^ 62 }
-    requires stands { Stands stripe.old }
-    requires page { has_page stripe.old.setup key ≡ true }
-    requires writable { is_writable stripe.old.setup key.region ≡ true }
-    requires large { LEAST_PAGE_SIZE ≤ stripe.old.setup.page_size }
-    ensures on { CoreGoesOn stripe.old stripe.new }
-    ensures events { stripe.new.events ≤ stripe.old.events + 4 }
-{
-    let byte = byte?;
-    let found = save_at(stripe, key, PLACE, byte);
-    let _ = raise_at(stripe, key, Why::Protected);
-    open_next(stripe);
-    let _ = save_at(stripe, key, PLACE, byte);
-    found
-}
-
-/// Writes a page back. Where `between` is a byte, a store of it to `PLACE` comes while the write is out, and what it finds is
-/// answered.
-pub fn write_out<S: Store>(
+/// Writes a page back, and lets `meanwhile` act while the write is out.
+pub fn write_out<S: Store, M: Meanwhile<S>>(
     stripe: &mut Stripe<S>,
     key: Key,
     why: Cause,
     scratch: &mut [u8],
-    between: Option<u8>,
-) -> Option<Look>
-    requires few { stripe.old.events + 8 ≤ 2 ^ 62 }
+    meanwhile: &mut M,
+)
+    requires few { stripe.old.events + 8 ≤ 2 ^ 61 }
     requires rest { IsAtRest stripe.old }
     requires page { has_page stripe.old.setup key ≡ true }
     requires writable { is_writable stripe.old.setup key.region ≡ true }
@@ -135,11 +113,44 @@ pub fn write_out<S: Store>(
 {
     service_knows();
     let mut trip = stripe.start_write(key, why, scratch);
-    let found = reopen(stripe, key, between);
+    meanwhile.act(stripe, key);
     let place = u64::from(key.page) * scratch.len() as u64;
     match trip.lane().write_to_store(scratch, place) {
         Ok(()) => stripe.written(trip, scratch),
         Err(_) => stripe.write_failed(trip),
     }
-    found
+}
+
+/// Makes room under pressure: writes the page that is picked back where it is dirty, else lets it leave.
+pub fn make_room<S: Store>(stripe: &mut Stripe<S>, scratch: &mut [u8]) -> Option<Pick>
+    requires few { stripe.old.events + 8 ≤ 2 ^ 61 }
+    requires rest { IsAtRest stripe.old }
+    requires writable { IsAllWritable stripe.old.setup }
+    requires large { LEAST_PAGE_SIZE ≤ stripe.old.setup.page_size }
+    requires size { length scratch.old ≡ stripe.old.setup.page_size }
+    requires small { stripe.old.setup.page_size ≤ MOST_PAGE_SIZE }
+    ensures rest { IsAtRest stripe.new }
+    ensures setup { stripe.new.setup ≡ stripe.old.setup }
+{
+    picks_know();
+    if !stripe.pressure() {
+        return None;
+    }
+    match stripe.pick() {
+        Some(pick) if pick.dirty => {
+            write_out(
+                stripe,
+                pick.key,
+                Cause::Pressure,
+                scratch,
+                &mut Reopen::none(),
+            );
+            Some(pick)
+        }
+        Some(pick) => {
+            stripe.evict(pick.key, Cause::Pressure);
+            Some(pick)
+        }
+        None => None,
+    }
 }

@@ -1,7 +1,7 @@
 //! Loads and stores of the pages in turn, many times over: what is timed.
 ghost use Rattle.std.specs.Prelude.{◌≡◌, ◌<◌, ◌≤◌, ◌+◌, length, true};
 ghost use Rattle.page_model.specs.Setups.{has_page, is_writable};
-ghost use Rattle.core_bench.specs.Hands.{CoreGoesOn, IsOneRegion};
+ghost use Rattle.core_bench.specs.Hands.{CoreGoesOn, HasRegion};
 
 use page_base::Key;
 use store_trait::Store;
@@ -49,9 +49,9 @@ fn save_part<S: Store>(stripe: &mut Stripe<S>, key: Key, place: u32, bytes: &[u8
 }
 
 /// Loads a part of each page, and counts the hits. The part lies within `room` bytes of the page's front.
-#[tactic(auto, using(crate::proofs::OneRegion::has, crate::proofs::OneRegion::still, crate::proofs::Going::goes_twice))]
+#[tactic(auto, using(crate::proofs::Regions::has, crate::proofs::Regions::still, crate::proofs::Going::goes_twice))]
 fn load_each<S: Store>(stripe: &mut Stripe<S>, pages: u32, room: u32, buf: &mut [u8]) -> u64
-    requires region { IsOneRegion stripe.old.setup pages }
+    requires region { HasRegion stripe.old.setup 0 pages }
     requires some { 0 < length buf.old }
     requires inside { room + length buf.old ≤ stripe.old.setup.page_size }
     ensures on { CoreGoesOn stripe.old stripe.new }
@@ -67,9 +67,9 @@ fn load_each<S: Store>(stripe: &mut Stripe<S>, pages: u32, room: u32, buf: &mut 
 }
 
 /// Stores to a part of each page, and counts the hits.
-#[tactic(auto, using(crate::proofs::OneRegion::has, crate::proofs::OneRegion::writable, crate::proofs::OneRegion::still, crate::proofs::Going::goes_twice))]
+#[tactic(auto, using(crate::proofs::Regions::has, crate::proofs::Regions::writable, crate::proofs::Regions::still, crate::proofs::Going::goes_twice))]
 fn save_each<S: Store>(stripe: &mut Stripe<S>, pages: u32, room: u32, bytes: &[u8]) -> u64
-    requires region { IsOneRegion stripe.old.setup pages }
+    requires region { HasRegion stripe.old.setup 0 pages }
     requires some { 0 < length bytes.now }
     requires inside { room + length bytes.now ≤ stripe.old.setup.page_size }
     ensures on { CoreGoesOn stripe.old stripe.new }
@@ -84,7 +84,7 @@ fn save_each<S: Store>(stripe: &mut Stripe<S>, pages: u32, room: u32, bytes: &[u
 }
 
 /// Loads a part of each page, so many rounds, and counts the hits.
-#[tactic(auto, using(crate::proofs::OneRegion::still, crate::proofs::Going::goes_twice))]
+#[tactic(auto, using(crate::proofs::Regions::still, crate::proofs::Going::goes_twice))]
 pub fn load_rounds<S: Store>(
     stripe: &mut Stripe<S>,
     pages: u32,
@@ -92,7 +92,7 @@ pub fn load_rounds<S: Store>(
     rounds: u64,
     buf: &mut [u8],
 ) -> u64
-    requires region { IsOneRegion stripe.old.setup pages }
+    requires region { HasRegion stripe.old.setup 0 pages }
     requires some { 0 < length buf.old }
     requires inside { room + length buf.old ≤ stripe.old.setup.page_size }
     ensures on { CoreGoesOn stripe.old stripe.new }
@@ -105,7 +105,7 @@ pub fn load_rounds<S: Store>(
 }
 
 /// Stores to a part of each page, so many rounds, and counts the hits.
-#[tactic(auto, using(crate::proofs::OneRegion::still, crate::proofs::Going::goes_twice))]
+#[tactic(auto, using(crate::proofs::Regions::still, crate::proofs::Going::goes_twice))]
 pub fn save_rounds<S: Store>(
     stripe: &mut Stripe<S>,
     pages: u32,
@@ -113,7 +113,7 @@ pub fn save_rounds<S: Store>(
     rounds: u64,
     bytes: &[u8],
 ) -> u64
-    requires region { IsOneRegion stripe.old.setup pages }
+    requires region { HasRegion stripe.old.setup 0 pages }
     requires some { 0 < length bytes.now }
     requires inside { room + length bytes.now ≤ stripe.old.setup.page_size }
     ensures on { CoreGoesOn stripe.old stripe.new }

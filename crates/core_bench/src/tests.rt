@@ -3,8 +3,8 @@ ghost use Rattle.page_base.specs.declared.limits.TheConstants.{MOST_FAULTS};
 ghost use Rattle.std.specs.Prelude.{◌≤◌};
 ghost use Rattle.store_trait.specs.declared.mem_lane.MemLane.{MemLane};
 
-use crate::calls::PLACE;
 use crate::hand::{Hand, Shown};
+use crate::meanwhile::PLACE;
 use crate::memory::zeros;
 use page_base::{Key, Layout, List, OutOfMemory, Why};
 use page_model::{Cause, Counts, HintAnswer, Next, Pick};
@@ -111,16 +111,18 @@ fn loaded(found: Option<(Look, u8)>) -> Said {
 /// Makes an access or raises a fault.
 fn access<S: Store>(hand: &mut Hand<S>, call: Do) -> Option<Said> {
     match call {
-        Do::Load(n) => Some(loaded(hand.load(n, PLACE))),
-        Do::Save(n, byte) => hand.save(n, PLACE, byte).map(Said::Look),
-        Do::Raise(n, why) => hand.raise(n, why).map(Said::Raise),
-        Do::Hint(n) => hand.hint(n).map(Said::Hint),
+        Do::Load(n) => Some(loaded(hand.load(page(n), PLACE))),
+        Do::Save(n, byte) => hand.save(page(n), PLACE, byte).map(Said::Look),
+        Do::Raise(n, why) => hand.raise(page(n), why).map(Said::Raise),
+        Do::Hint(n) => hand.hint(page(n)).map(Said::Hint),
         Do::Serve => hand.serve().map(Said::Next),
-        Do::Write(n, why) => Some(done(hand.write(n, why, None).is_some())),
-        Do::WriteAround(n, byte) => hand.write(n, Cause::Flush, Some(byte))?.map(Said::Look),
-        Do::Evict(n, why) => Some(done(hand.evict(n, why))),
-        Do::Close => Some(done(hand.close())),
-        Do::Unmap => Some(done(hand.unmap())),
+        Do::Write(n, why) => Some(done(hand.write(page(n), why, None).is_some())),
+        Do::WriteAround(n, byte) => hand
+            .write(page(n), Cause::Flush, Some(byte))?
+            .map(Said::Look),
+        Do::Evict(n, why) => Some(done(hand.evict(page(n), why))),
+        Do::Close => Some(done(hand.close(0))),
+        Do::Unmap => Some(done(hand.unmap(0))),
         _ => None,
     }
 }
@@ -128,13 +130,13 @@ fn access<S: Store>(hand: &mut Hand<S>, call: Do) -> Option<Said> {
 /// Reads what the stripe answers of itself.
 fn read<S: Store>(hand: &Hand<S>, call: Do) -> Option<Said> {
     match call {
-        Do::Page(n) => hand.shown(n).map(Said::Page),
+        Do::Page(n) => hand.shown(page(n)).map(Said::Page),
         Do::Frame(i) => hand.frame(i).map(Said::Frame),
         Do::Pick => Some(Said::Pick(hand.stripe().pick())),
         Do::Oldest => Some(Said::Pick(hand.stripe().oldest_of(0))),
         Do::Pressure => Some(Said::Bool(hand.stripe().pressure())),
         Do::Evicting => Some(Said::Bool(hand.stripe().evicting())),
-        Do::Quiet => Some(Said::Bool(hand.quiet())),
+        Do::Quiet => Some(Said::Bool(hand.quiet(0))),
         Do::Counts => Some(Said::Counts(hand.stripe().counts())),
         Do::Events => Some(Said::Events(hand.stripe().events())),
         _ => None,
@@ -162,7 +164,7 @@ fn in_memory(rt: &HostRuntime, frames: u32, faults: u32) -> Result<Hand<MemLane>
     requires few_faults { faults ≤ MOST_FAULTS }
 {
     let layout = Layout::new(64, 1, frames)?;
-    let lane = zeros(rt.alloc(), &layout, 3)?;
+    let lane = zeros(rt.alloc(), &layout, 0, 3)?;
     Ok(Hand::new(rt.alloc(), layout, 3, faults, lane)?)
 }
 
@@ -279,7 +281,7 @@ fn a_store_that_comes_while_a_write_is_out_isnt_lost(rt: HostRuntime) -> Result<
 #[test]
 fn a_failed_call_of_the_store_loses_nothing(rt: HostRuntime) -> Result<(), Fail> {
     let layout = Layout::new(64, 1, 2)?;
-    let lane = zeros(rt.alloc(), &layout, 3)?;
+    let lane = zeros(rt.alloc(), &layout, 0, 3)?;
     let first_read = List::from_vec(vec![in rt.alloc(); 1]?);
     let first_write = List::from_vec(vec![in rt.alloc(); 1]?);
     let lane = FailLane::new(lane, first_read, first_write);

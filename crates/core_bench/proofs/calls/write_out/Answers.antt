@@ -14,8 +14,8 @@ overflow_mul-place g c =
     let low = bounded c.from.result (length c.start_write-trip.new.scratch) (omega (arith, c.from.ensures)) (omega (arith, c.requires.size, c.requires.small)) in
     omega (arith, low)
 
-pub reopen-found-requires-clause-stands : goal.reopen-found-requires-clause-stands
-reopen-found-requires-clause-stands g c =
+pub act-requires-clause-stands : goal.act-requires-clause-stands
+act-requires-clause-stands g c =
     let s = c.requires.rest in
     record { history = _; is = c.start_write-trip.ensures.stands s.history 0 s.is }
 
@@ -34,7 +34,7 @@ pub written-requires-clause-open_write : goal.written-requires-clause-open_write
 written-requires-clause-open_write g c =
     let e = c.start_write-trip.ensures in
     let s = c.requires.rest in
-    let on = c.reopen-found.ensures.on in
+    let on = c.act.ensures.on in
     let l = on.later _ (e.stands s.history 0 s.is) in
     let open_ = open_later _ _ l.history 0 _ l.flight (e.open_write s.history 0 s.is) in
     let taken = taken_later c.args.stripe.now.setup ((0, entry.StartWrite c.args.key c.args.why) ∷ s.history) l.history c.args.key c.start_write-trip.new.scratch l.flight (e.taken s.history 0 s.is) in
@@ -58,7 +58,7 @@ pub write_failed-requires-clause-open_write : goal.write_failed-requires-clause-
 write_failed-requires-clause-open_write g c =
     let e = c.start_write-trip.ensures in
     let s = c.requires.rest in
-    let on = c.reopen-found.ensures.on in
+    let on = c.act.ensures.on in
     let l = on.later _ (e.stands s.history 0 s.is) in
     let open_ = open_later _ _ l.history 0 _ l.flight (e.open_write s.history 0 s.is) in
     (l.history, 0, l.is, rw (on.setup, e.fixed) open_)
@@ -81,7 +81,7 @@ pub returns-in-Ok-clause-rest : goal.returns-in-Ok-clause-rest
 returns-in-Ok-clause-rest g c =
     let e = c.start_write-trip.ensures in
     let s = c.requires.rest in
-    let on = c.reopen-found.ensures.on in
+    let on = c.act.ensures.on in
     let l = on.later _ (e.stands s.history 0 s.is) in
     let open_ = open_later _ _ l.history 0 _ l.flight (e.open_write s.history 0 s.is) in
     let taken = taken_later c.args.stripe.now.setup ((0, entry.StartWrite c.args.key c.args.why) ∷ s.history) l.history c.args.key c.start_write-trip.new.scratch l.flight (e.taken s.history 0 s.is) in
@@ -91,7 +91,7 @@ pub returns-in-Err-clause-rest : goal.returns-in-Err-clause-rest
 returns-in-Err-clause-rest g c =
     let e = c.start_write-trip.ensures in
     let s = c.requires.rest in
-    let on = c.reopen-found.ensures.on in
+    let on = c.act.ensures.on in
     let l = on.later _ (e.stands s.history 0 s.is) in
     let open_ = open_later _ _ l.history 0 _ l.flight (e.open_write s.history 0 s.is) in
     record { history = _; is = c.write_failed.ensures.stands l.history 0 l.is (rw (on.setup, e.fixed) open_); flight = write_ends s.history l.history c.args.key c.start_write-trip.result.start.key c.args.why (sym e.key) s.flight l.flight }

@@ -21,4 +21,4 @@ returns c =
     let pages : length c.from_vec.result.items / c.page_size-2.result ≡ c.args.pages = ap (λ n. n / c.page_size-2.result) long ∙ mul-div_cancel c.args.pages some in
     let size = c.new-store.ensures.page_size ∙ c.page_size-2.ensures in
     let count : length c.new-store.result.contents.items / c.new-store.result.page_size ≡ c.args.pages = rw (c.new-store.ensures.contents, c.new-store.ensures.page_size) pages in
-    origin ∙ alike _ _ _ _ _ _ count size c.requires.one_stripe
+    origin ∙ alike _ _ _ _ _ _ _ count size c.requires.one_stripe

@@ -4,4 +4,4 @@ use Rattle.core_bench.proofs.Kept.{makes}
 use Rattle.core_bench.proofs.hand.Hand.close.Goals as goal
 
 pub invariant_of-self : goal.invariant_of-self
-invariant_of-self g c = makes _ _ _ _ _ (entry.Closing 0) c.closing.ensures.fixed c.closing.ensures.stands (λ h r. refl) c.self.invariant
+invariant_of-self g c = makes _ _ _ _ _ _ (entry.Closing _) c.closing.ensures.fixed c.closing.ensures.stands (λ h r. refl) c.self.invariant

@@ -4,4 +4,4 @@ use Rattle.core_bench.proofs.Kept.{makes}
 use Rattle.core_bench.proofs.hand.Hand.evict.Goals as goal
 
 pub invariant_of-self : goal.invariant_of-self
-invariant_of-self g c = makes _ _ _ _ _ (entry.Evicted _ c.args.why) c.evict.ensures.fixed c.evict.ensures.stands (λ h r. refl) c.self.invariant
+invariant_of-self g c = makes _ _ _ _ _ _ (entry.Evicted _ c.args.why) c.evict.ensures.fixed c.evict.ensures.stands (λ h r. refl) c.self.invariant
