@@ -23,5 +23,6 @@ pub mod RanOne
 pub mod RanItems
 pub mod RegionNames
 pub mod Makings
+pub mod Allowed
 pub mod Tabled
 pub mod RegionRules

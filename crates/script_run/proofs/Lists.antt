@@ -21,19 +21,6 @@ same_items [] (y ∷ ys) e same = absurd (omega (arith, e))
 same_items (x ∷ xs) [] e same = absurd (omega (arith, e))
 same_items (x ∷ xs) (y ∷ ys) e same = ap (λ z. z ∷ xs) (sym (some_is (same 0 x refl))) ∙ ap (λ zs. y ∷ zs) (same_items xs ys (omega (arith, e)) (λ i z h. same (suc i) z h))
 
--- what is written at a place, and at another
-pub slice_set_same : {A : Type 0} (xs : List A) (i : ℕ) (x v : A) → slice_get xs i ≡ Some x → slice_get (slice_set xs i v) i ≡ Some v
-slice_set_same [] i x v e = absurd cc
-slice_set_same (y ∷ ys) zero x v e = refl
-slice_set_same (y ∷ ys) (suc i) x v e = slice_set_same ys i x v e
-
-pub slice_set_other : {A : Type 0} (xs : List A) (i j : ℕ) (v : A) → (j ≡ i → ⊥) → slice_get (slice_set xs i v) j ≡ slice_get xs j
-slice_set_other [] i j v ne = refl
-slice_set_other (y ∷ ys) zero zero v ne = absurd (ne refl)
-slice_set_other (y ∷ ys) zero (suc j) v ne = refl
-slice_set_other (y ∷ ys) (suc i) zero v ne = refl
-slice_set_other (y ∷ ys) (suc i) (suc j) v ne = slice_set_other ys i j v (λ e. ne (ap suc e))
-
 -- two rows of n lie apart
 pub rows_apart : (i j n : ℕ) → i < j → i * n + n ≤ j * n
 rows_apart i j n h = omega (arith, mul-le (i + 1) n j n (omega arith) (omega arith))

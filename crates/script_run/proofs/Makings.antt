@@ -1,5 +1,5 @@
 -- What stripes made, one stretch after another.
-use Rattle.std.proofs.Common.{◌≡◌, inl, inr, ℕ, ◌≤◌, ◌==◌, Bool, true, false, cond, eqb, List, [], ◌∷◌, ◌++◌, length, reverse, take, drop, Option, Some, None, slice_get, slice_set, refl, sym, ap, subst, ◌∙◌, arith, append_assoc, append-nil, length-append, length-drop}
+use Rattle.std.proofs.Common.{◌≡◌, inl, inr, ℕ, ◌≤◌, ◌==◌, Bool, true, false, cond, eqb, List, [], ◌∷◌, ◌++◌, length, reverse, take, drop, Option, Some, None, slice_get, refl, sym, ap, subst, ◌∙◌, arith, append_assoc, append-nil, length-append, length-drop}
 use Rattle.std.specs.List.{filter, list_all, sum_by}
 use Rattle.std.proofs.lemmas.Bool.{cases_Bool, cases_eq, and_parts, and_from, eqb-true, eq-eqb}
 use Rattle.std.proofs.lemmas.List.{map-append, reverse-append, take-append-le, drop-append-le, drop-drop, take_all}
@@ -11,8 +11,6 @@ use Rattle.std.proofs.lemmas.Option.{slice_get_within}
 use Rattle.histories.specs.Histories.{History, by}
 use Rattle.page_base.specs.declared.keys.Key.{Key}
 use Rattle.page_base.specs.declared.keys.Why.{Why}
-use Rattle.page_model.specs.declared.entry.Cause.{Cause}
-use Rattle.page_model.specs.declared.entry.Cause.TheVariants.{Pressure, Flush, Unmap}
 use Rattle.page_model.specs.declared.entry.Entry.{Entry}
 use Rattle.page_model.specs.declared.entry.Entry.TheVariants.{Load, Save, Raised, StartRead, Filled, Opened, Dropped, ReadFailed, WriteFailed, StartWrite, Evicted, Written, Hint, Closing, Unmapped}
 use Rattle.page_model.specs.Entries.{key_of, is_access}
@@ -20,20 +18,15 @@ use Rattle.page_model.specs.Stands.{StandsFor}
 use Rattle.page_base.specs.declared.keys.Piece.{Piece}
 use Rattle.serial_pager.specs.Seen.{StripeSeen}
 use Rattle.serial_pager.specs.declared.fault.PageFault.{PageFault}
-use Rattle.serial_pager.specs.Accesses.{serves, is_pressure, AccessFails}
-use Rattle.serial_pager.specs.Goings.{Went, WentTo}
-use Rattle.serial_pager.specs.Pagers.{PagerSeen, OnStripe, IsSame, WentAll, stripe_at}
+use Rattle.serial_pager.specs.Accesses.{serves}
+use Rattle.serial_pager.specs.Goings.{Went}
+use Rattle.serial_pager.specs.Pagers.{PagerSeen, IsSame, PieceFails, WentAll, WentToIn, made_in, stripe_at}
 use Rattle.script_run.proofs.FittedLanes.{there}
-use Rattle.script_run.specs.LineEntries.{is_for_room, is_served, Fails, MakesInOrder}
+use Rattle.script_run.specs.LineEntries.{Fails, MakesInOrder}
 use Rattle.page_model.specs.Pieces.{accesses_by, loads}
 use Rattle.page_model.specs.Entries.{lies_in, of_stripe}
 use Rattle.script_run.specs.InsideRanges.{GoesBy}
 use Rattle.script_run.proofs.Ranged.{same_stripe}
-use Rattle.script_run.proofs.Lists.{slice_set_same, slice_set_other}
-
--- entries of one stripe alone
-abbrev pub at_stripe : ℕ → List Entry → ℕ → List Entry
-at_stripe s es n = cond (n == s) es []
 
 neq-eqb : (a b : ℕ) → (a ≡ b → ⊥) → eqb a b ≡ false
 neq-eqb a b other = elim (cases_Bool (eqb a b)) [ inl e ↦ absurd (other (eqb-true a b e)) | inr e ↦ e ]
@@ -44,10 +37,10 @@ eqb-swap a b = elim (cases_eq a b) [ inl e ↦ eq-eqb a b e ∙ sym (eq-eqb b a 
 -- ---- histories
 
 module _ {J : Type 0} (has_noted : J → History Entry → Type 0) where
-  pub went_none : (x : StripeSeen J) → Went has_noted [] x x
+  pub went_none : (x : StripeSeen J) → Went 0 has_noted [] x x
   went_none x = record { setup = refl; events = omega arith; stands = λ h st. st; noted = λ h n. n }
 
-  pub went_more : (a b : List Entry) (x y z : StripeSeen J) → Went has_noted a x y → Went has_noted b y z → Went has_noted (b ++ a) x z
+  pub went_more : (a b : List Entry) (x y z : StripeSeen J) → Went 0 has_noted a x y → Went 0 has_noted b y z → Went 0 has_noted (b ++ a) x z
   went_more a b x y z f g = record {
     setup = g.setup ∙ f.setup;
     events = omega (arith, f.events, g.events, length-append b a);
@@ -58,50 +51,33 @@ module _ {J : Type 0} (has_noted : J → History Entry → Type 0) where
       both : (h : History Entry) → by 0 b ++ (by 0 a ++ h) ≡ by 0 (b ++ a) ++ h
       both h = sym (append_assoc (by 0 b) (by 0 a) h) ∙ ap (λ (k : History Entry). k ++ h) (sym (map-append (λ (e : Entry). (0, e)) b a))
 
-  pub all_none : (p : PagerSeen J) → WentAll has_noted (λ s. []) p p
-  all_none p s x y was is = subst (λ (z : StripeSeen J). Went has_noted [] x z) (same_some was is) (went_none x)
+  pub all_none : (p : PagerSeen J) → WentAll 0 has_noted (λ s. []) p p
+  all_none p s x y was is = subst (λ (z : StripeSeen J). Went 0 has_noted [] x z) (same_some was is) (went_none x)
     where
       same_some : {o : Option (StripeSeen J)} → o ≡ Some x → o ≡ Some y → x ≡ y
       same_some {o} e f = let g : Some x ≡ Some y = sym e ∙ f in cc
 
-  pub all_more : (a b : ℕ → List Entry) (p q z : PagerSeen J) → length q.stripes ≡ length p.stripes → WentAll has_noted a p q → WentAll has_noted b q z → WentAll has_noted (λ s. b s ++ a s) p z
+  pub all_more : (a b : ℕ → List Entry) (p q z : PagerSeen J) → length q.stripes ≡ length p.stripes → WentAll 0 has_noted a p q → WentAll 0 has_noted b q z → WentAll 0 has_noted (λ s. b s ++ a s) p z
   all_more a b p q z many f g s x y was is =
       let mid = there q.stripes s (omega (arith, many, slice_get_within p.stripes s x was)) in
       went_more (a s) (b s) x mid.0 y (f s x mid.0 was mid.1) (g s mid.0 y mid.1 is)
 
-  -- one stripe went on, and the others are as they were
-  pub all_on : (s : ℕ) (es : List Entry) (Does : StripeSeen J → StripeSeen J → Type 0) (p q : PagerSeen J) (on : OnStripe s Does p q) → Went has_noted es on.before on.after → WentAll has_noted (at_stripe s es) p q
-  all_on s es Does p q on went n x y was is = elim (cases_eq n s) [
-    | inl here ↦
-        let old : x ≡ on.before = let e : Some x ≡ Some on.before = sym was ∙ ap (slice_get p.stripes) here ∙ on.was in cc in
-        let new : y ≡ on.after = let e : Some y ≡ Some on.after = sym is ∙ ap (λ (ss : List (StripeSeen J)). slice_get ss n) on.is ∙ ap (slice_get (slice_set p.stripes s on.after)) here ∙ slice_set_same p.stripes s on.before on.after on.was in cc in
-        subst (λ (b : Bool). Went has_noted (cond b es []) x y) (sym (eq-eqb n s here)) (subst (λ (a : StripeSeen J). Went has_noted es a y) (sym old) (subst (λ (b : StripeSeen J). Went has_noted es on.before b) (sym new) went))
-    | inr other ↦
-        let same : x ≡ y = let e : Some x ≡ Some y = sym was ∙ sym (ap (λ (ss : List (StripeSeen J)). slice_get ss n) on.is ∙ slice_set_other p.stripes s n on.after other) ∙ is in cc in
-        subst (λ (b : Bool). Went has_noted (cond b es []) x y) (sym (neq-eqb n s other)) (subst (λ (b : StripeSeen J). Went has_noted [] x b) same (went_none x))
-  ]
-
 -- ---- accesses in order
 
--- what serves an access is no access, and is served
-for_room : (why : Cause) → is_pressure why ≡ true → is_for_room why ≡ true
-for_room Pressure h = refl
-for_room Flush h = h
-for_room Unmap h = h
-
-serves_quiet : (k : Key) (reasons : Why → Bool) (e : Entry) → serves k reasons e ≡ true → (is_access e ≡ false) × (is_served e ≡ true)
+-- what serves an access is no access
+serves_quiet : (k : Key) (reasons : Why → Bool) (e : Entry) → serves k reasons e ≡ true → is_access e ≡ false
 serves_quiet k reasons (Load j place bytes) h = absurd (cc)
 serves_quiet k reasons (Save j place bytes) h = absurd (cc)
-serves_quiet k reasons (Raised j why) h = (refl, refl)
-serves_quiet k reasons (StartRead j) h = (refl, refl)
-serves_quiet k reasons (Filled j) h = (refl, refl)
-serves_quiet k reasons (Opened j) h = (refl, refl)
-serves_quiet k reasons (Dropped j) h = (refl, refl)
-serves_quiet k reasons (ReadFailed j n) h = (refl, refl)
+serves_quiet k reasons (Raised j why) h = refl
+serves_quiet k reasons (StartRead j) h = refl
+serves_quiet k reasons (Filled j) h = refl
+serves_quiet k reasons (Opened j) h = refl
+serves_quiet k reasons (Dropped j) h = refl
+serves_quiet k reasons (ReadFailed j n) h = refl
 serves_quiet k reasons (WriteFailed j n) h = absurd (cc)
-serves_quiet k reasons (StartWrite j why) h = (refl, for_room why h)
-serves_quiet k reasons (Evicted j why) h = (refl, for_room why h)
-serves_quiet k reasons (Written j at bytes) h = (refl, refl)
+serves_quiet k reasons (StartWrite j why) h = refl
+serves_quiet k reasons (Evicted j why) h = refl
+serves_quiet k reasons (Written j at bytes) h = refl
 serves_quiet k reasons (Hint j answer) h = absurd (cc)
 serves_quiet k reasons (Closing r) h = absurd (cc)
 serves_quiet k reasons (Unmapped r) h = absurd (cc)
@@ -110,19 +86,23 @@ pub none_accessed : (k : Key) (reasons : Why → Bool) (es : List Entry) → lis
 none_accessed k reasons [] h = refl
 none_accessed k reasons (e ∷ es) h =
     let parts = and_parts (serves k reasons e) (list_all (serves k reasons) es) h in
-    ap (λ (b : Bool). cond b (e ∷ filter is_access es) (filter is_access es)) (serves_quiet k reasons e parts.0).0 ∙ none_accessed k reasons es parts.1
+    ap (λ (b : Bool). cond b (e ∷ filter is_access es) (filter is_access es)) (serves_quiet k reasons e parts.0) ∙ none_accessed k reasons es parts.1
 
-pub all_served : (k : Key) (reasons : Why → Bool) (es : List Entry) → list_all (serves k reasons) es ≡ true → list_all is_served es ≡ true
-all_served k reasons [] h = refl
-all_served k reasons (e ∷ es) h =
+-- what serves an access passes a test
+abbrev pub ServesBy : (may : Entry → Bool) → Key → (reasons : Why → Bool) → Type 0
+ServesBy may k reasons = (e : Entry) → serves k reasons e ≡ true → may e ≡ true
+
+pub all_may : (may : Entry → Bool) (k : Key) (reasons : Why → Bool) → ServesBy may k reasons → (es : List Entry) → list_all (serves k reasons) es ≡ true → list_all may es ≡ true
+all_may may k reasons weak [] h = refl
+all_may may k reasons weak (e ∷ es) h =
     let parts = and_parts (serves k reasons e) (list_all (serves k reasons) es) h in
-    and_from (is_served e) (list_all is_served es) (serves_quiet k reasons e parts.0).1 (all_served k reasons es parts.1)
+    and_from (may e) (list_all may es) (weak e parts.0) (all_may may k reasons weak es parts.1)
 
-module _ (stripe : Key → ℕ) where
-  pub order_none : MakesInOrder stripe [] [] (λ s. [])
+module _ (stripe : Key → ℕ) (may : Entry → Bool) where
+  pub order_none : MakesInOrder stripe may [] [] (λ s. [])
   order_none = record { served = λ s. []; made_are = λ s. refl; in_order = λ s. refl; serve = λ s. refl }
 
-  pub order_more : (a b failure : List Entry) (m n : ℕ → List Entry) → MakesInOrder stripe a [] m → MakesInOrder stripe b failure n → MakesInOrder stripe (a ++ b) failure (λ s. n s ++ m s)
+  pub order_more : (a b failure : List Entry) (m n : ℕ → List Entry) → MakesInOrder stripe may a [] m → MakesInOrder stripe may b failure n → MakesInOrder stripe may (a ++ b) failure (λ s. n s ++ m s)
   order_more a b failure m n f g = record {
     served = λ s. g.served s ++ f.served s;
     made_are = λ s. ap (λ (es : List Entry). n s ++ es) (f.made_are s) ∙ ap (λ (es : List Entry). es ++ f.served s) (g.made_are s) ∙ append_assoc (of_stripe stripe s failure) (g.served s) (f.served s);
@@ -131,13 +111,13 @@ module _ (stripe : Key → ℕ) where
         ∙ ap (λ (es : List Entry). es ++ filter is_access (f.served s)) (g.in_order s)
         ∙ ap (λ (es : List Entry). reverse (of_stripe stripe s b) ++ es) (f.in_order s)
         ∙ sym (ap reverse (filter-append (λ (e : Entry). lies_in stripe s (key_of e)) a b) ∙ reverse-append (of_stripe stripe s a) (of_stripe stripe s b));
-    serve = λ s. list_all-append is_served (g.served s) (f.served s) ∙ and_from (list_all is_served (g.served s)) (list_all is_served (f.served s)) (g.serve s) (f.serve s);
+    serve = λ s. list_all-append may (g.served s) (f.served s) ∙ and_from (list_all may (g.served s)) (list_all may (f.served s)) (g.serve s) (f.serve s);
   }
 
   -- one access, behind what served it
-  pub order_access : (k : Key) (s : ℕ) (e : Entry) (key : Key) (reasons : Why → Bool) (before : List Entry) → stripe k ≡ s → key_of e ≡ Some k → is_access e ≡ true → is_served e ≡ true → list_all (serves key reasons) before ≡ true → MakesInOrder stripe (e ∷ []) [] (at_stripe s (e ∷ before))
-  order_access k s e key reasons before at its access serves pass = record {
-    served = at_stripe s (e ∷ before);
+  pub order_access : (k : Key) (s : ℕ) (e : Entry) (key : Key) (reasons : Why → Bool) (weak : ServesBy may key reasons) (before : List Entry) → stripe k ≡ s → key_of e ≡ Some k → is_access e ≡ true → may e ≡ true → list_all (serves key reasons) before ≡ true → MakesInOrder stripe may (e ∷ []) [] (made_in s (e ∷ before))
+  order_access k s e key reasons weak before at its access allowed pass = record {
+    served = made_in s (e ∷ before);
     made_are = λ n. refl;
     in_order = λ n. order n (n == s) refl;
     serve = λ n. serve_ n (n == s) refl;
@@ -157,14 +137,14 @@ module _ (stripe : Key → ℕ) where
           ap (λ (c : Bool). filter is_access (cond c (e ∷ before) [])) h
           ∙ sym (ap (λ (c : Bool). reverse (cond c (e ∷ []) [])) (mine n ∙ eqb-swap s n ∙ h))
 
-      serve_ : (n : ℕ) (b : Bool) → (n == s) ≡ b → list_all is_served (cond (n == s) (e ∷ before) []) ≡ true
-      serve_ n true h = ap (λ (c : Bool). list_all is_served (cond c (e ∷ before) [])) h ∙ and_from (is_served e) (list_all is_served before) serves (all_served key reasons before pass)
-      serve_ n false h = ap (λ (c : Bool). list_all is_served (cond c (e ∷ before) [])) h
+      serve_ : (n : ℕ) (b : Bool) → (n == s) ≡ b → list_all may (cond (n == s) (e ∷ before) []) ≡ true
+      serve_ n true h = ap (λ (c : Bool). list_all may (cond c (e ∷ before) [])) h ∙ and_from (may e) (list_all may before) allowed (all_may may key reasons weak before pass)
+      serve_ n false h = ap (λ (c : Bool). list_all may (cond c (e ∷ before) [])) h
 
   -- a failure, behind what came before it
-  pub order_failure : (k : Key) (s : ℕ) (e : Entry) (key : Key) (reasons : Why → Bool) (before : List Entry) → stripe k ≡ s → key_of e ≡ Some k → list_all (serves key reasons) before ≡ true → MakesInOrder stripe [] (e ∷ []) (at_stripe s (e ∷ before))
-  order_failure k s e key reasons before at its pass = record {
-    served = at_stripe s before;
+  pub order_failure : (k : Key) (s : ℕ) (e : Entry) (key : Key) (reasons : Why → Bool) (weak : ServesBy may key reasons) (before : List Entry) → stripe k ≡ s → key_of e ≡ Some k → list_all (serves key reasons) before ≡ true → MakesInOrder stripe may [] (e ∷ []) (made_in s (e ∷ before))
+  order_failure k s e key reasons weak before at its pass = record {
+    served = made_in s before;
     made_are = λ n. made n (n == s) refl;
     in_order = λ n. order n (n == s) refl;
     serve = λ n. serve_ n (n == s) refl;
@@ -187,9 +167,9 @@ module _ (stripe : Key → ℕ) where
       order n true h = ap (λ (c : Bool). filter is_access (cond c before [])) h ∙ none_accessed key reasons before pass
       order n false h = ap (λ (c : Bool). filter is_access (cond c before [])) h
 
-      serve_ : (n : ℕ) (b : Bool) → (n == s) ≡ b → list_all is_served (cond (n == s) before []) ≡ true
-      serve_ n true h = ap (λ (c : Bool). list_all is_served (cond c before [])) h ∙ all_served key reasons before pass
-      serve_ n false h = ap (λ (c : Bool). list_all is_served (cond c before [])) h
+      serve_ : (n : ℕ) (b : Bool) → (n == s) ≡ b → list_all may (cond (n == s) before []) ≡ true
+      serve_ n true h = ap (λ (c : Bool). list_all may (cond c before [])) h ∙ all_may may key reasons weak before pass
+      serve_ n false h = ap (λ (c : Bool). list_all may (cond c before [])) h
 
 -- the same by another name of each page's stripe
 of_same : (f g : Key → ℕ) → ((k : Key) → f k ≡ g k) → (s : ℕ) (es : List Entry) → of_stripe f s es ≡ of_stripe g s es
@@ -202,8 +182,8 @@ of_same f g same s (e ∷ es) =
     in_same None = refl
     in_same (Some k) = ap (λ (n : ℕ). n == s) (same k)
 
-pub order_same : (f g : Key → ℕ) (a b : List Entry) (m : ℕ → List Entry) → ((k : Key) → f k ≡ g k) → MakesInOrder f a b m → MakesInOrder g a b m
-order_same f g a b m same o = record {
+pub order_same : (f g : Key → ℕ) (may : Entry → Bool) (a b : List Entry) (m : ℕ → List Entry) → ((k : Key) → f k ≡ g k) → MakesInOrder f may a b m → MakesInOrder g may a b m
+order_same f g may a b m same o = record {
   served = o.served;
   made_are = λ s. o.made_are s ∙ ap (λ (es : List Entry). es ++ o.served s) (of_same f g same s b);
   in_order = λ s. o.in_order s ∙ ap reverse (of_same f g same s a);
@@ -212,43 +192,43 @@ order_same f g a b m same o = record {
 
 -- ---- accesses on a pager
 
-module _ {J : Type 0} (has_noted : J → History Entry → Type 0) where
-  pub by_none : (p : PagerSeen J) → GoesBy has_noted [] [] p p
-  by_none p = record { made = λ s. []; in_order = order_none (stripe_at p); went = all_none has_noted p }
+module _ {J : Type 0} (has_noted : J → History Entry → Type 0) (may : Entry → Bool) where
+  pub by_none : (p : PagerSeen J) → GoesBy has_noted may [] [] p p
+  by_none p = record { made = λ s. []; in_order = order_none (stripe_at p) may; went = all_none has_noted p }
 
-  by_more : (a b failure : List Entry) (p q z : PagerSeen J) → IsSame p q → GoesBy has_noted a [] p q → GoesBy has_noted b failure q z → GoesBy has_noted (a ++ b) failure p z
+  by_more : (a b failure : List Entry) (p q z : PagerSeen J) → IsSame p q → GoesBy has_noted may a [] p q → GoesBy has_noted may b failure q z → GoesBy has_noted may (a ++ b) failure p z
   by_more a b failure p q z same f g = record {
     made = λ s. g.made s ++ f.made s;
-    in_order = order_more (stripe_at p) a b failure f.made g.made f.in_order (order_same (stripe_at q) (stripe_at p) b failure g.made (same_stripe p q same) g.in_order);
+    in_order = order_more (stripe_at p) may a b failure f.made g.made f.in_order (order_same (stripe_at q) (stripe_at p) may b failure g.made (same_stripe p q same) g.in_order);
     went = all_more has_noted f.made g.made p q z same.stripes f.went g.went;
   }
 
   -- one more piece
-  pub by_access : (a : List Entry) (p q z : PagerSeen J) (k : Key) (reasons : Why → Bool) (e : Entry) → IsSame p q → GoesBy has_noted a [] p q → OnStripe (stripe_at q k) (WentTo has_noted (serves k reasons) e) q z → key_of e ≡ Some k → is_access e ≡ true → is_served e ≡ true → GoesBy has_noted (a ++ e ∷ []) [] p z
-  by_access a p q z k reasons e same first on its access served =
+  pub by_access : (a : List Entry) (p q z : PagerSeen J) (k : Key) (reasons : Why → Bool) (weak : ServesBy may k reasons) (e : Entry) → IsSame p q → GoesBy has_noted may a [] p q → WentToIn 0 has_noted (stripe_at q k) (serves k reasons) e q z → key_of e ≡ Some k → is_access e ≡ true → may e ≡ true → GoesBy has_noted may (a ++ e ∷ []) [] p z
+  by_access a p q z k reasons weak e same first on its access allowed =
       by_more a (e ∷ []) [] p q z same first (record {
-        made = at_stripe (stripe_at q k) (e ∷ on.does.before);
-        in_order = order_access (stripe_at q) k (stripe_at q k) e k reasons on.does.before refl its access served on.does.pass;
-        went = all_on has_noted (stripe_at q k) (e ∷ on.does.before) (WentTo has_noted (serves k reasons) e) q z on on.does.went;
+        made = made_in (stripe_at q k) (e ∷ on.before);
+        in_order = order_access (stripe_at q) may k (stripe_at q k) e k reasons weak on.before refl its access allowed on.pass;
+        went = on.went;
       })
 
   -- the piece whose access failed
   pub record FailsBy (a : List Entry) (ended : Key) (f : PageFault) (p z : PagerSeen J) : Type 0 where
     pub failure : Entry
     pub fails : Fails ended f.key f.faults failure
-    pub goes : GoesBy has_noted a (failure ∷ []) p z
+    pub goes : GoesBy has_noted may a (failure ∷ []) p z
 
-  pub by_failure : (a : List Entry) (p q z : PagerSeen J) (k ended : Key) (reasons : Why → Bool) (may_owe : StripeSeen J → Key → Bool) (f : PageFault) → IsSame p q → k ≡ ended → GoesBy has_noted a [] p q → OnStripe (stripe_at q k) (λ x y. AccessFails has_noted k reasons (may_owe x) x y f) q z → stripe_at q f.key ≡ stripe_at q k → FailsBy a ended f p z
-  by_failure a p q z k ended reasons may_owe f same at first on stripe = elim on.does [
-    | inl r ↦ record { failure = ReadFailed f.key f.faults; fails = inl (r.key ∙ at, refl); goes = last (ReadFailed f.key f.faults) refl r.went }
-    | inr w ↦ record { failure = WriteFailed f.key f.faults; fails = inr refl; goes = last (WriteFailed f.key f.faults) refl w.went }
+  pub by_failure : (a : List Entry) (p q z : PagerSeen J) (k ended : Key) (reasons : Why → Bool) (weak : ServesBy may k reasons) (may_owe : Key → Bool) (f : PageFault) → IsSame p q → k ≡ ended → GoesBy has_noted may a [] p q → PieceFails 0 has_noted k reasons may_owe q z f → stripe_at q f.key ≡ stripe_at q k → FailsBy a ended f p z
+  by_failure a p q z k ended reasons weak may_owe f same at first fails stripe = elim fails [
+    | inl r ↦ record { failure = ReadFailed f.key f.faults; fails = inl (r.0 ∙ at, refl); goes = last (ReadFailed f.key f.faults) refl r.1 }
+    | inr w ↦ record { failure = WriteFailed f.key f.faults; fails = inr refl; goes = last (WriteFailed f.key f.faults) refl w.1 }
   ]
     where
-      last : (e : Entry) → key_of e ≡ Some f.key → WentTo has_noted (serves k reasons) e on.before on.after → GoesBy has_noted a (e ∷ []) p z
+      last : (e : Entry) → key_of e ≡ Some f.key → WentToIn 0 has_noted (stripe_at q k) (serves k reasons) e q z → GoesBy has_noted may a (e ∷ []) p z
       last e its went =
-          subst (λ (es : List Entry). GoesBy has_noted es (e ∷ []) p z) (append-nil a)
+          subst (λ (es : List Entry). GoesBy has_noted may es (e ∷ []) p z) (append-nil a)
           (by_more a [] (e ∷ []) p q z same first (record {
-            made = at_stripe (stripe_at q k) (e ∷ went.before);
-            in_order = order_failure (stripe_at q) f.key (stripe_at q k) e k reasons went.before stripe its went.pass;
-            went = all_on has_noted (stripe_at q k) (e ∷ went.before) (λ x y. AccessFails has_noted k reasons (may_owe x) x y f) q z on went.went;
+            made = made_in (stripe_at q k) (e ∷ went.before);
+            in_order = order_failure (stripe_at q) may f.key (stripe_at q k) e k reasons weak went.before stripe its went.pass;
+            went = went.went;
           }))

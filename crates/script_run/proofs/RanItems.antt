@@ -95,7 +95,7 @@ module _ {J : Type 0} (has_noted : J → History Entry → Type 0) (t : Spread) 
   ran_map before m r p shaped =
       ran_one has_noted t gs before (region_line m) nothing 0 r r p p (sym (append-nil r.text.items)) (omega arith) (omega arith) (omega arith) (omega arith) (or_none r.faulted)
       (λ told regions shows. (tt, shows_same t gs p shaped told before (region_line m) regions p 0 (goes_none p) shows (λ k has. refl) (λ k e. e)))
-      (counts_same t gs p shaped p 0 (goes_none p)) (goes_none p) (omega arith) (λ s. []) (all_none has_noted p) (makes_none t (region_line m) nothing refl refl)
+      (counts_same t gs p shaped p 0 (goes_none p)) (goes_none p) (omega arith) (λ s. []) (all_none has_noted p) (makes_none t (region_line m) nothing refl refl tt)
     where
       or_none : (x : Bool) → x ≡ (x || false)
       or_none true = refl

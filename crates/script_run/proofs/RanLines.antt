@@ -11,7 +11,7 @@ use Rattle.workload_text.specs.Grammar.{Region}
 use Rattle.workload_text.specs.Accepted.{loaded_bytes, command_count}
 use Rattle.script_run.specs.InsideRooms.{room, rooms}
 use Rattle.script_run.specs.Replies.{Reply, reply_text, replies_text, is_fault_reply, bytes_shown}
-use Rattle.script_run.specs.LineEntries.{Accesses, Failure, Makes, AllMake}
+use Rattle.script_run.specs.LineEntries.{Accesses, Failure, FaultsInStripe, Makes, AllMake, may_make}
 use Rattle.script_run.specs.FitsSerial.{Spread, stripe_in, MayAnswer, AllAnswer, left, left_by, fault_count_in, counts_named, Rising, last_count, CountsFit}
 use Rattle.script_run.specs.InsideRanges.{RangeGoesOn}
 use Rattle.script_run.specs.InsideRunning.{Shows, behind, Ran}
@@ -109,8 +109,15 @@ module _ (t : Spread) where
   make_more (x ∷ xs) ys (a ∷ more) bs behind mid all h k = (h.0, h.1, make_more xs ys more bs (λ s. h.0 s ++ behind s) mid all h.2 k)
 
   -- a line that makes nothing
-  pub makes_none : (l : Line) (a : Reply) → Accesses t.page_size l a [] → Failure t.page_size l a [] → Makes t l a (λ s. [])
-  makes_none l a accesses failure = record { accesses = []; failure = []; accesses_are = accesses; failure_is = failure; in_order = order_none (stripe_in t) }
+  pub makes_none : (l : Line) (a : Reply) → Accesses t.page_size l a [] → Failure t.page_size l a [] → FaultsInStripe t l a → Makes t l a (λ s. [])
+  makes_none l a accesses failure in_stripe = record {
+    accesses = [];
+    failure = [];
+    accesses_are = accesses;
+    failure_is = failure;
+    in_stripe = in_stripe;
+    in_order = order_none (stripe_in t) (may_make t.page_size l);
+  }
 
 -- ---- runs
 
@@ -180,7 +187,7 @@ module _ {J : Type 0} (has_noted : J → History Entry → Type 0) (t : Spread) 
   pub ran_one : (before : List Line) (l : Line) (a : Reply) (len : ℕ) (r0 r1 : Replies) (p q : PagerSeen J) → r1.text.items ≡ r0.text.items ++ reply_text gs a → r0.text.spare ≤ r1.text.spare + room gs l → r1.loaded ≡ r0.loaded + length (bytes_shown a) → r1.sum ≡ r0.sum + sum (bytes_shown a)
       → length (bytes_shown a) ≤ loaded_bytes (l ∷ []) → r1.faulted ≡ (r0.faulted || is_fault_reply a)
       → ((told : ℕ → Bool) (regions : List (List ℕ)) → Shows t told before regions p → MayAnswer t told (l ∷ before) regions l a × Shows t told (l ∷ before) (left regions l a) q)
-      → ((s r : ℕ) → CountsFit (count_at p s r) (fault_count_in t s r a) (count_at q s r)) → RangeGoesOn len p q → len ≤ 65536 * command_count (l ∷ []) → (made : ℕ → List Entry) → WentAll has_noted made p q → Makes t l a made
+      → ((s r : ℕ) → CountsFit (count_at p s r) (fault_count_in t s r a) (count_at q s r)) → RangeGoesOn len p q → len ≤ 65536 * command_count (l ∷ []) → (made : ℕ → List Entry) → WentAll 0 has_noted made p q → Makes t l a made
       → Ran has_noted t gs before (l ∷ []) r0 r1 p q
   ran_one before l a len r0 r1 p q text spare loaded added within faulted answered counts goes few made went makes =
       let shown : flat_map bytes_shown (a ∷ []) ≡ bytes_shown a = append-nil (bytes_shown a) in

@@ -20,7 +20,7 @@ use Rattle.script_run.specs.Serial.{bytes_at, load_reply}
 use Rattle.script_run.specs.InsideRooms.{fault_room}
 use Rattle.script_run.specs.Replies.{begun, loaded, ok, fault, reply_text}
 use Rattle.script_run.specs.FitsSerial.{Spread, stripe_in, StoresTo, Names, EndsAt, piece_key, fault_count_in, CountsFit}
-use Rattle.script_run.specs.LineEntries.{Fails, MakesInOrder}
+use Rattle.script_run.specs.LineEntries.{Fails, MakesInOrder, may_make}
 use Rattle.page_model.specs.Pieces.{loads, saves, AreBefore}
 use Rattle.script_run.specs.InsideRanges.{IsRange, HoldsRegion, RangeGoesOn, FaultsAt, GoesBy, BreaksOff}
 use Rattle.script_run.specs.InsideRunning.{IsShaped, Shows, Ran, shape_of}
@@ -127,16 +127,22 @@ module _ {J : Type 0} (t : Spread) (gs : List Region) (p : PagerSeen J) (shaped 
   -- ---- lines
 
   module _ (has_noted : J → History Entry → Type 0) where
-    -- by the layout's stripes
-    made_in : (a failure : List Entry) (made : ℕ → List Entry) → MakesInOrder (stripe_at p) a failure made → MakesInOrder (stripe_in t) a failure made
-    made_in a failure made o = order_same (stripe_at p) (stripe_in t) a failure made stripe_is o
+    -- by the layout's stripes and its pages
+    made_in : (l : Line) (a failure : List Entry) (made : ℕ → List Entry) → MakesInOrder (stripe_at p) (may_make p.page_size l) a failure made → MakesInOrder (stripe_in t) (may_make t.page_size l) a failure made
+    made_in l a failure made o =
+        subst (λ z. MakesInOrder (stripe_in t) (may_make z l) a failure made) shaped.page_size
+        (order_same (stripe_at p) (stripe_in t) (may_make p.page_size l) a failure made stripe_is o)
+
+    -- a fault is in the stripe of its piece
+    in_stripe_is : (r off len done : ℕ) (stores : Key → Type 0) (q : PagerSeen J) (f : PageFault) → FaultsAt p q r off len stores done f → stripe_in t f.key ≡ stripe_in t (piece_key t.page_size r (off + done))
+    in_stripe_is r off len done stores q f at = sym (stripe_is f.key) ∙ at.stripe ∙ stripe_is (piece_key p.page_size r (off + done)) ∙ ap (λ z. stripe_in t (piece_key z r (off + done))) shaped.page_size
 
     pub ran_script : (before : List Line) (name : List ℕ) (r0 r1 : Replies) → r1.text.items ≡ r0.text.items ++ (codes "script " ++ (name ++ 10 ∷ [])) → r0.text.spare ≤ r1.text.spare + (length name + 8) → r1.loaded ≡ r0.loaded → r1.sum ≡ r0.sum → r1.faulted ≡ r0.faulted
         → Ran has_noted t gs before (script_line name ∷ []) r0 r1 p p
     ran_script before name r0 r1 text spare count total flag =
         ran_one has_noted t gs before (script_line name) (begun name) 0 r0 r1 p p text spare (omega (arith, count)) (omega (arith, total)) (omega arith) (flag ∙ sym (or_none r0.faulted))
         (λ told regions shows. (refl, shows_same told before (script_line name) regions p 0 (goes_none p) shows (λ k has. refl) (λ k e. e)))
-        (counts_same p 0 (goes_none p)) (goes_none p) (omega arith) (λ s. []) (all_none has_noted p) (makes_none t (script_line name) (begun name) refl refl)
+        (counts_same p 0 (goes_none p)) (goes_none p) (omega arith) (λ s. []) (all_none has_noted p) (makes_none t (script_line name) (begun name) refl refl tt)
       where
         or_none : (x : Bool) → (x || false) ≡ x
         or_none true = refl
@@ -156,7 +162,7 @@ module _ {J : Type 0} (t : Spread) (gs : List Region) (p : PagerSeen J) (shaped 
 
       pub ran_load : (len : ℕ) (bytes : List ℕ) → length bytes ≡ len → len ≤ 65536 → RangeGoesOn len p q → HoldsSame p q → ((k : Key) → owes q k ≡ true → owes p k ≡ true) → ((b : List ℕ) → HoldsRegion p r b → bytes ≡ take len (drop off b))
           → r1.text.items ≡ r0.text.items ++ load_reply bytes → r0.text.spare ≤ r1.text.spare + (2 * length bytes + 6) → r1.loaded ≡ r0.loaded + length bytes → r1.sum ≡ r0.sum + sum bytes → r1.faulted ≡ r0.faulted
-          → GoesBy has_noted (loads (pieces_of p.page_size r off len) bytes) [] p q
+          → GoesBy has_noted (may_make p.page_size (load_line r off len)) (loads (pieces_of p.page_size r off len) bytes) [] p q
           → Ran has_noted t gs before (load_line r off len ∷ []) r0 r1 p q
       ran_load len bytes long short goes same owed is text spare count total flag by =
           ran_one has_noted t gs before (load_line r off len) (loaded bytes) len r0 r1 p q text (omega (arith, spare, long)) count total (omega (arith, long)) (flag ∙ or_false r0.faulted)
@@ -167,12 +173,13 @@ module _ {J : Type 0} (t : Spread) (gs : List Region) (p : PagerSeen J) (shaped 
             failure = [];
             accesses_are = (long, ap (λ z. loads (pieces_of z r off len) bytes) shaped.page_size);
             failure_is = refl;
-            in_order = made_in (loads (pieces_of p.page_size r off len) bytes) [] by.made by.in_order;
+            in_stripe = tt;
+            in_order = made_in (load_line r off len) (loads (pieces_of p.page_size r off len) bytes) [] by.made by.in_order;
           })
 
       pub ran_load_fault : (len done : ℕ) (f : PageFault) → len ≤ 65536 → RangeGoesOn len p q → HoldsSame p q → ((k : Key) → owes q k ≡ true → owes p k ≡ true) → FaultsAt p q r off len (λ k. ⊥) done f
           → r1.text.items ≡ r0.text.items ++ reply_text gs (fault f.key f.faults done) → r0.text.spare ≤ r1.text.spare + fault_room gs → r1.loaded ≡ r0.loaded → r1.sum ≡ r0.sum → r1.faulted ≡ true
-          → (bytes : List ℕ) → length bytes ≡ done → BreaksOff has_noted (λ k place its. Load k place its) (pieces_of p.page_size r off len) bytes (piece_key p.page_size r (off + done)) done f p q
+          → (bytes : List ℕ) → length bytes ≡ done → BreaksOff has_noted (may_make p.page_size (load_line r off len)) (λ k place its. Load k place its) (pieces_of p.page_size r off len) bytes (piece_key p.page_size r (off + done)) done f p q
           → Ran has_noted t gs before (load_line r off len ∷ []) r0 r1 p q
       ran_load_fault len done f short goes same owed at text spare count total flag bytes long by =
           ran_one has_noted t gs before (load_line r off len) (fault f.key f.faults done) len r0 r1 p q text (omega (arith, spare)) (omega (arith, count)) (omega (arith, total)) (omega arith) (flag ∙ or_true r0.faulted)
@@ -183,7 +190,8 @@ module _ {J : Type 0} (t : Spread) (gs : List Region) (p : PagerSeen J) (shaped 
             failure = by.failure ∷ [];
             accesses_are = (by.pieces, bytes, subst (λ z. AreBefore (pieces_of z r off len) done by.pieces) shaped.page_size by.before, long, refl);
             failure_is = (by.failure, refl, subst (λ z. Fails (piece_key z r (off + done)) f.key f.faults by.failure) shaped.page_size by.fails);
-            in_order = made_in (loads by.pieces bytes) (by.failure ∷ []) by.goes.made by.goes.in_order;
+            in_stripe = in_stripe_is r off len done (λ k. ⊥) q f at;
+            in_order = made_in (load_line r off len) (loads by.pieces bytes) (by.failure ∷ []) by.goes.made by.goes.in_order;
           })
 
       module _ (bytes : List ℕ) (short : length bytes ≤ 65536) (goes : RangeGoesOn (length bytes) p q) (others : (k : Key) → has_key p k ≡ true → (k.region ≡ r → ⊥) → held q k ≡ held p k) (owed : (k : Key) → owes q k ≡ true → (owes p k ≡ true) ⊎ StoresTo p.page_size k (store_line r off bytes)) where
@@ -192,7 +200,7 @@ module _ {J : Type 0} (t : Spread) (gs : List Region) (p : PagerSeen J) (shaped 
 
         pub ran_store : ((b : List ℕ) → HoldsRegion p r b → HoldsRegion q r (spliced b off bytes))
             → r1.text.items ≡ r0.text.items ++ codes "ok\n" → r0.text.spare ≤ r1.text.spare + 3 → r1.loaded ≡ r0.loaded → r1.sum ≡ r0.sum → r1.faulted ≡ r0.faulted
-            → GoesBy has_noted (saves (pieces_of p.page_size r off (length bytes)) bytes) [] p q → Ran has_noted t gs before (store_line r off bytes ∷ []) r0 r1 p q
+            → GoesBy has_noted (may_make p.page_size (store_line r off bytes)) (saves (pieces_of p.page_size r off (length bytes)) bytes) [] p q → Ran has_noted t gs before (store_line r off bytes ∷ []) r0 r1 p q
         ran_store done text spare count total flag by =
             ran_one has_noted t gs before (store_line r off bytes) ok (length bytes) r0 r1 p q text (omega (arith, spare)) (omega (arith, count)) (omega (arith, total)) (omega arith) (flag ∙ or_false r0.faulted)
             (λ told regions shows. (tt, shows_stored told before (store_line r off bytes) regions q (length bytes) goes shows r off bytes below others owed_in done))
@@ -202,12 +210,13 @@ module _ {J : Type 0} (t : Spread) (gs : List Region) (p : PagerSeen J) (shaped 
               failure = [];
               accesses_are = ap (λ z. saves (pieces_of z r off (length bytes)) bytes) shaped.page_size;
               failure_is = refl;
-              in_order = made_in (saves (pieces_of p.page_size r off (length bytes)) bytes) [] by.made by.in_order;
+              in_stripe = tt;
+              in_order = made_in (store_line r off bytes) (saves (pieces_of p.page_size r off (length bytes)) bytes) [] by.made by.in_order;
             })
 
         pub ran_store_fault : (done : ℕ) (f : PageFault) → FaultsAt p q r off (length bytes) (λ k. StoresTo p.page_size k (store_line r off bytes)) done f → ((b : List ℕ) → HoldsRegion p r b → HoldsRegion q r (spliced b off (take done bytes)))
             → r1.text.items ≡ r0.text.items ++ reply_text gs (fault f.key f.faults done) → r0.text.spare ≤ r1.text.spare + fault_room gs → r1.loaded ≡ r0.loaded → r1.sum ≡ r0.sum → r1.faulted ≡ true
-            → BreaksOff has_noted (λ k place its. Save k place its) (pieces_of p.page_size r off (length bytes)) bytes (piece_key p.page_size r (off + done)) done f p q → Ran has_noted t gs before (store_line r off bytes ∷ []) r0 r1 p q
+            → BreaksOff has_noted (may_make p.page_size (store_line r off bytes)) (λ k place its. Save k place its) (pieces_of p.page_size r off (length bytes)) bytes (piece_key p.page_size r (off + done)) done f p q → Ran has_noted t gs before (store_line r off bytes ∷ []) r0 r1 p q
         ran_store_fault done f at kept text spare count total flag by =
             ran_one has_noted t gs before (store_line r off bytes) (fault f.key f.faults done) (length bytes) r0 r1 p q text (omega (arith, spare)) (omega (arith, count)) (omega (arith, total)) (omega arith) (flag ∙ or_true r0.faulted)
             (λ told regions shows. (names_is told before (store_line r off bytes) regions q (length bytes) goes shows r off (length bytes) done (λ k. StoresTo p.page_size k (store_line r off bytes)) f at (λ k h. subst (λ z. StoresTo z k (store_line r off bytes)) shaped.page_size h), shows_stored told before (store_line r off bytes) regions q (length bytes) goes shows r off (take done bytes) below others owed_in kept))
@@ -217,7 +226,8 @@ module _ {J : Type 0} (t : Spread) (gs : List Region) (p : PagerSeen J) (shaped 
               failure = by.failure ∷ [];
               accesses_are = (by.pieces, subst (λ z. AreBefore (pieces_of z r off (length bytes)) done by.pieces) shaped.page_size by.before, refl);
               failure_is = (by.failure, refl, subst (λ z. Fails (piece_key z r (off + done)) f.key f.faults by.failure) shaped.page_size by.fails);
-              in_order = made_in (saves by.pieces bytes) (by.failure ∷ []) by.goes.made by.goes.in_order;
+              in_stripe = in_stripe_is r off (length bytes) done (λ k. StoresTo p.page_size k (store_line r off bytes)) q f at;
+              in_order = made_in (store_line r off bytes) (saves by.pieces bytes) (by.failure ∷ []) by.goes.made by.goes.in_order;
             })
 
 -- the region of a fault is there

@@ -1,6 +1,15 @@
 -- What follows from a run's meaning with faults, as statements.
-use Rattle.std.specs.Prelude.{◌≡◌, ℕ, ◌<◌, true, false, List, length, map}
+use Rattle.std.specs.Prelude.{◌≡◌, ℕ, ◌<◌, Bool, true, false, List, length, map}
+use Rattle.std.specs.List.{list_any}
+use Rattle.histories.specs.Histories.{History, by}
+use Rattle.page_base.specs.declared.keys.Key.{Key}
 use Rattle.page_base.specs.Lanes.{LaneSeen}
+use Rattle.page_base.specs.Pages.{same}
+use Rattle.page_model.specs.declared.entry.Entry.{Entry}
+use Rattle.page_model.specs.declared.entry.Entry.TheVariants.{Written}
+use Rattle.page_model.specs.Bits.{is_dirty}
+use Rattle.region_table.specs.Regions.{TableSeen}
+use Rattle.serial_pager.specs.Writings.{is_failed_write_of}
 use Rattle.workload_text.specs.Line.{Line}
 use Rattle.page_base.specs.ListSeen.{ListSeen}
 use Rattle.page_base.specs.declared.layout.Layout.{Layout}
@@ -15,8 +24,11 @@ use Rattle.script_run.specs.Serial.{bytes_at, serial_text, serial_end}
 use Rattle.script_run.specs.Contents.{contents_of, rows_in}
 use Rattle.script_run.specs.Fits.{FitLanes}
 use Rattle.script_run.specs.FitsSerial.{Spread, spread_of, region_is_told, EndSeen, FitsSerial}
+use Rattle.script_run.specs.FitsJournals.{FitsJournals}
 use Rattle.script_run.specs.RegionRules.{named_region}
+use Rattle.script_run.specs.Replies.{Reply}
 use Rattle.script_run.specs.Tables.{regions_seen}
+use Rattle.script_run.specs.declared.settings.Settings.{Settings}
 
 -- the lanes tell every region
 abbrev pub AllTold : List (List LaneSeen) → Type 0
@@ -46,3 +58,17 @@ pub record RegionsAreMaps : Type 0 where
   pub regions : (w : Workload) → regions_of (lines_of w) ≡ map region w.maps.items
   pub seen : (w : Workload) → regions_seen (lines_of w) ≡ map named_region w.maps.items
   pub numbered : (n : ℕ) (texts : List TextLine) → length (map_numbers n texts) ≡ length (regions_seen (lines_in texts))
+
+-- the entry is the good end of a write of this page
+abbrev pub is_written : Key → Entry → Bool
+is_written k (Written j at bytes) = same j k
+is_written k e = false
+
+-- where the lines leave a page dirty, the last writes of its stripe write it, unless one failed in its region: so what the
+-- journals have noted refuses a run that ends without them, whatever its lanes hold
+abbrev pub DirtyIsWritten : {J : Type 0} → (has_noted : J → History Entry → Type 0) → Type 0
+DirtyIsWritten {J} has_noted =
+    (c : Settings) (table : TableSeen) (lines : List Line) (rows ends : List (List LaneSeen)) (replies : List Reply) (failed : Bool) (journals : List J) (s : ℕ) (k : Key)
+    → (f : FitsJournals has_noted c table lines rows ends replies failed journals)
+    → s < c.layout.stripes → is_dirty (by 0 (f.by_lines s)) k ≡ true → list_any (is_failed_write_of k.region) (f.last s) ≡ false
+    → list_any (is_written k) (f.last s) ≡ true

@@ -1,5 +1,5 @@
 -- Ranges of a region's bytes on a pager: what a load or a store of one asks for, what it makes, and how it fails.
-use Rattle.std.specs.Prelude.{◌≡◌, ℕ, ◌+◌, ◌*◌, ◌^◌, ◌<◌, ◌≤◌, ◌⊎◌, true, List, [], ◌∷◌, length, take, drop, slice_get, slice_index, Some}
+use Rattle.std.specs.Prelude.{◌≡◌, ℕ, ◌+◌, ◌*◌, ◌^◌, ◌<◌, ◌≤◌, ◌⊎◌, Bool, true, List, [], ◌∷◌, length, take, drop, slice_get, slice_index, Some}
 use Rattle.page_base.specs.declared.keys.Key.{Key}
 use Rattle.page_base.specs.Lanes.{Rose}
 use Rattle.histories.specs.Histories.{History}
@@ -11,12 +11,12 @@ use Rattle.store_trait.specs.Memory.{page_bytes}
 use Rattle.serial_pager.specs.declared.fault.PageFault.{PageFault}
 use Rattle.serial_pager.specs.Pagers.{PagerSeen, has_key, stripe_at, held, owes, count_at, IsSame, CountsGrow, WentAll}
 use Rattle.script_run.specs.FitsSerial.{StoresTo, EndsAt, piece_key}
-use Rattle.script_run.specs.LineEntries.{Fails, MakesInOrder}
+use Rattle.script_run.specs.LineEntries.{Fails, MakesInOrder, may_make}
 use Rattle.page_base.specs.ListSeen.{spliced}
 use Rattle.page_model.specs.declared.entry.Entry.TheVariants.{Load, Save}
 use Rattle.page_model.specs.Pieces.{AreBefore, accesses_by, loads, saves}
 use Rattle.region_table.specs.Pieces.{pieces_of}
-use Rattle.workload_text.specs.Line.{store_line}
+use Rattle.workload_text.specs.Line.{load_line, store_line}
 
 abbrev pub range_key : (region page : ℕ) → Key
 range_key region page = record { region = region; page = page }
@@ -58,19 +58,19 @@ module _ {J : Type 0} where
     pub rose : Rose (count_at old (stripe_at old f.key) f.key.region) f.faults
     pub within : f.faults ≤ count_at new (stripe_at old f.key) f.key.region
 
-  -- the stripes made these accesses in order, and then this failure
-  pub record GoesBy (has_noted : J → History Entry → Type 0) (accesses failure : List Entry) (old new : PagerSeen J) : Type 0 where
+  -- the stripes made these accesses in order, all by entries that pass a test, and then this failure
+  pub record GoesBy (has_noted : J → History Entry → Type 0) (may : Entry → Bool) (accesses failure : List Entry) (old new : PagerSeen J) : Type 0 where
     pub made : ℕ → List Entry
-    pub in_order : MakesInOrder (stripe_at old) accesses failure made
-    pub went : WentAll has_noted made old new
+    pub in_order : MakesInOrder (stripe_at old) may accesses failure made
+    pub went : WentAll 0 has_noted made old new
 
   -- an access with these pieces and bytes made the accesses of those before the one that failed, and then the failure
-  pub record BreaksOff (has_noted : J → History Entry → Type 0) (access : Key → (place : ℕ) → List ℕ → Entry) (all : List Piece) (bytes : List ℕ) (ended : Key) (done : ℕ) (f : PageFault) (old new : PagerSeen J) : Type 0 where
+  pub record BreaksOff (has_noted : J → History Entry → Type 0) (may : Entry → Bool) (access : Key → (place : ℕ) → List ℕ → Entry) (all : List Piece) (bytes : List ℕ) (ended : Key) (done : ℕ) (f : PageFault) (old new : PagerSeen J) : Type 0 where
     pub pieces : List Piece
     pub before : AreBefore all done pieces
     pub failure : Entry
     pub fails : Fails ended f.key f.faults failure
-    pub goes : GoesBy has_noted (accesses_by access pieces bytes) (failure ∷ []) old new
+    pub goes : GoesBy has_noted may (accesses_by access pieces bytes) (failure ∷ []) old new
 
   -- ---- a load of a range
 
@@ -80,14 +80,14 @@ module _ {J : Type 0} where
 
   -- the stripes made the loads of its pieces, with these bytes
   abbrev pub LoadsRange : (has_noted : J → History Entry → Type 0) → (region off len : ℕ) → List ℕ → (old new : PagerSeen J) → Type 0
-  LoadsRange has_noted region off len bytes old new = GoesBy has_noted (loads (pieces_of old.page_size region off len) bytes) [] old new
+  LoadsRange has_noted region off len bytes old new = GoesBy has_noted (may_make old.page_size (load_line region off len)) (loads (pieces_of old.page_size region off len) bytes) [] old new
 
   -- a load of it ended at a piece, having loaded the pieces before
   abbrev pub LoadBreaks : (has_noted : J → History Entry → Type 0) → (region off len : ℕ) → PageFault → (old new : PagerSeen J) → Type 0
   LoadBreaks has_noted region off len f old new =
       (done : ℕ) × FaultsAt old new region off len (λ k. ⊥) done f
       × (bytes : List ℕ) × (length bytes ≡ done)
-      × BreaksOff has_noted (λ k place its. Load k place its) (pieces_of old.page_size region off len) bytes (piece_key old.page_size region (off + done)) done f old new
+      × BreaksOff has_noted (may_make old.page_size (load_line region off len)) (λ k place its. Load k place its) (pieces_of old.page_size region off len) bytes (piece_key old.page_size region (off + done)) done f old new
 
   -- ---- a store of these bytes to a range
 
@@ -102,11 +102,11 @@ module _ {J : Type 0} where
 
   -- the stripes made the stores of its pieces
   abbrev pub SavesRange : (has_noted : J → History Entry → Type 0) → (region off : ℕ) → List ℕ → (old new : PagerSeen J) → Type 0
-  SavesRange has_noted region off bytes old new = GoesBy has_noted (saves (pieces_of old.page_size region off (length bytes)) bytes) [] old new
+  SavesRange has_noted region off bytes old new = GoesBy has_noted (may_make old.page_size (store_line region off bytes)) (saves (pieces_of old.page_size region off (length bytes)) bytes) [] old new
 
   -- a store ended at a piece, having stored to the pieces before
   abbrev pub StoreBreaks : (has_noted : J → History Entry → Type 0) → (region off : ℕ) → List ℕ → PageFault → (old new : PagerSeen J) → Type 0
   StoreBreaks has_noted region off bytes f old new =
       (done : ℕ) × FaultsAt old new region off (length bytes) (λ k. StoresTo old.page_size k (store_line region off bytes)) done f
       × WritesOver region off (take done bytes) old new
-      × BreaksOff has_noted (λ k place its. Save k place its) (pieces_of old.page_size region off (length bytes)) bytes (piece_key old.page_size region (off + done)) done f old new
+      × BreaksOff has_noted (may_make old.page_size (store_line region off bytes)) (λ k place its. Save k place its) (pieces_of old.page_size region off (length bytes)) bytes (piece_key old.page_size region (off + done)) done f old new

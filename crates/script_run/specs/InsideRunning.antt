@@ -81,7 +81,7 @@ module _ {J : Type 0} where
     pub pieces : q.spent ≤ p.spent + MOST_ACCESS_BYTES * command_count lines
     -- what the stripes made, on top of whatever they had made
     pub made : ℕ → List Entry
-    pub went : WentAll has_noted made p q
+    pub went : WentAll 0 has_noted made p q
     pub lines_make : (older : ℕ → List Entry) → AllMake t lines replies older (λ s. made s ++ older s)
 
   -- a run of these lines over these lanes may be opened, with a journal for each stripe

@@ -1,7 +1,9 @@
 //! What follows from the meaning of a run, and from that of its regions. Each function does nothing: its contract is
 //! the law.
-ghost use Rattle.script_run.specs.FitsLaws.{WithoutFaults, MemoryRunsAreSerial, RegionsAreMaps};
+ghost use Rattle.script_run.specs.FitsLaws.{WithoutFaults, MemoryRunsAreSerial, RegionsAreMaps, DirtyIsWritten};
 ghost use Rattle.script_run.specs.Tellings.{ToldIsHeld, FlagIsCounted};
+
+use page_model::Journal;
 
 /// A run that isn't flagged answers the serial text and leaves the serial contents, where all is told.
 pub fn without_faults()
@@ -26,4 +28,9 @@ pub fn told_is_held()
 /// In a run that is flagged the count of some lane rose.
 pub fn faults_are_counted()
     ensures { FlagIsCounted }
+{}
+
+/// A page that the lines leave dirty is written at the end, by what the journals have noted alone.
+pub fn dirty_is_written<J: Journal>()
+    ensures { DirtyIsWritten J.has_noted }
 {}

@@ -21,6 +21,8 @@ use crate::rooms::room_of;
 use crate::settings::Settings;
 use page_base::{Bytes, List};
 use page_model::Journal;
+use page_model::events::pages_show;
+use page_model::laws::clean_is_kept;
 use region_table::RegionTable;
 use serial_pager::{PageFault, SerialPager};
 use std::alloc::Global;
@@ -175,6 +177,8 @@ pub fn serial<S: Store, J: Journal>(
     ensures back { IfErr result (λ back. rows_of S.seen (lanes_in back) ≡ rows_of S.seen lanes) }
     ensures unchanged { IfErr result (λ back. journals.new.items ≡ journals.old.items) }
 {
+    pages_show();
+    clean_is_kept();
     let Some(room) = room_of(workload) else {
         return Err(RunBack::OutOfMemory { lanes });
     };

@@ -1,8 +1,8 @@
 -- Writing the dirty pages, one after another in order of key.
-use Rattle.std.proofs.Common.{Bool, Err, IfErr, List, None, Ok, OnOk, Option, Result, Some, [], ap, arith, cond, false, filter, find, inl, inr, is_err, length, map, min, nat_lt, not, refl, subst, sym, true, suc, ℕ, ◌*◌, ◌+◌, ◌++◌, ◌/◌, ◌%◌, ◌&&◌, ◌∙◌, ◌∷◌, ◌≡◌, ◌≤◌, ◌⊎◌, ◌||◌}
+use Rattle.std.proofs.Common.{Bool, Err, IfErr, List, None, Ok, OnOk, Option, Result, Some, [], ap, arith, cond, false, filter, find, inl, inr, is_err, length, map, min, nat_lt, not, refl, subst, sym, true, suc, ℕ, ◌*◌, ◌+◌, ◌++◌, ◌/◌, ◌%◌, ◌&&◌, ◌∙◌, ◌∷◌, ◌≡◌, ◌==◌, ◌≤◌, ◌⊎◌, ◌||◌}
 use Rattle.std.proofs.Math.Bool.{or_comm}
 use Rattle.std.proofs.Math.Nat.{div-le_self}
-use Rattle.std.proofs.lemmas.Bool.{and_from, and_parts, cases_Bool, cases_lt, false_from_ne_true, or_cases, or_left, or_parts, or_right}
+use Rattle.std.proofs.lemmas.Bool.{and_from, and_parts, cases_Bool, cases_lt, eq-eqb, false_from_ne_true, or_cases, or_left, or_parts, or_right}
 use Rattle.std.proofs.lemmas.Bool.Decides.{nat_tests}
 use Rattle.std.proofs.lemmas.List.Folds.{list_any-append}
 use Rattle.std.specs.List.{AllByRecursion, list_any}
@@ -23,7 +23,7 @@ use Rattle.serial_pager.specs.InsideGoings.{FailsToWriteOut, TriesToWrite, Write
 use Rattle.serial_pager.specs.InsideServices.{FailsToWrite, Tries, Writes}
 use Rattle.serial_pager.specs.Rests.{IsAtRest}
 use Rattle.serial_pager.specs.Seen.{StripeSeen}
-use Rattle.serial_pager.specs.Writings.{Falls, RoseAt, WroteBack, WroteEach, flushes, is_failed_write, tries}
+use Rattle.serial_pager.specs.Writings.{Falls, RoseAt, WroteBack, WroteEach, flushes, is_failed_write, is_failed_write_of, tries}
 use Rattle.serial_pager.proofs.Goes.{all_both, went_nowhere, went_twice}
 use Rattle.serial_pager.proofs.Holds.{stores_nothing, told_held}
 use Rattle.serial_pager.proofs.Keys.{same-true, same_self}
@@ -40,8 +40,8 @@ pub tries_page : {X : Type 0} (c d : Core) (k : Key) (r : Result X PageFault) �
 tries_page c d k (Ok x) w f = w
 tries_page c d k (Err fault) w f = (fault, f)
 
-pub tries_entries : {J X : Type 0} (noted : J → History Entry → Type 0) (k : Key) (a b : StripeSeen J) (r : Result X PageFault) → OnOk r (WritesOut noted k Flush a b)
-    → IfErr r (λ f. FailsToWriteOut noted k Flush a b f) → TriesToWrite noted k (is_err r) a b
+pub tries_entries : {J X : Type 0} (noted : J → History Entry → Type 0) (k : Key) (a b : StripeSeen J) (r : Result X PageFault) → OnOk r (WritesOut 0 noted k Flush a b)
+    → IfErr r (λ f. FailsToWriteOut 0 noted k Flush a b f) → TriesToWrite 0 noted k (is_err r) a b
 tries_entries noted k a b (Ok x) w f = w
 tries_entries noted k a b (Err fault) w f = (fault, f)
 
@@ -83,10 +83,10 @@ module _ (c d : Core) (k : Key) where
 -- ---- the entries of writes for a flush
 
 module _ {J : Type 0} (noted : J → History Entry → Type 0) where
-  abbrev pub back_none : (a : StripeSeen J) → WroteBack noted false a a
+  abbrev pub back_none : (a : StripeSeen J) → WroteBack 0 noted false a a
   back_none a = record { entries = []; pass = refl; fails = refl; went = went_nowhere noted a }
 
-  abbrev pub back_twice : (f g : Bool) (a b c : StripeSeen J) → WroteBack noted f a b → WroteBack noted g b c → WroteBack noted (f || g) a c
+  abbrev pub back_twice : (f g : Bool) (a b c : StripeSeen J) → WroteBack 0 noted f a b → WroteBack 0 noted g b c → WroteBack 0 noted (f || g) a c
   back_twice f g a b c one two = record {
     entries = two.entries ++ one.entries;
     pass = all_both noted flushes two.entries one.entries two.pass one.pass;
@@ -95,17 +95,28 @@ module _ {J : Type 0} (noted : J → History Entry → Type 0) where
   }
 
   -- the entries of one write tell whether it failed
-  abbrev pub page_back : (k : Key) (a b : StripeSeen J) (now : Bool) → TriesToWrite noted k now a b → WroteBack noted now a b
+  abbrev pub page_back : (k : Key) (a b : StripeSeen J) (now : Bool) → TriesToWrite 0 noted k now a b → WroteBack 0 noted now a b
   page_back k a b true w = record { entries = entry.WriteFailed k w.0.faults ∷ entry.StartWrite k Flush ∷ []; pass = refl; fails = refl; went = w.1 }
   page_back k a b false w = record { entries = entry.Written k w.0 w.1 ∷ entry.StartWrite k Flush ∷ []; pass = refl; fails = refl; went = w.2 }
 
-  pub page_tries : (k : Key) (a b : StripeSeen J) (now : Bool) (w : TriesToWrite noted k now a b) (es : List Entry) → tries ((page_back k a b now w).entries ++ es) ≡ k ∷ tries es
+  pub page_tries : (k : Key) (a b : StripeSeen J) (now : Bool) (w : TriesToWrite 0 noted k now a b) (es : List Entry) → tries ((page_back k a b now w).entries ++ es) ≡ k ∷ tries es
   page_tries k a b true w es = refl
   page_tries k a b false w es = refl
 
-  pub page_events : (k : Key) (a b : StripeSeen J) (now : Bool) (w : TriesToWrite noted k now a b) → b.core.events ≡ a.core.events + 2
+  pub page_events : (k : Key) (a b : StripeSeen J) (now : Bool) (w : TriesToWrite 0 noted k now a b) → b.core.events ≡ a.core.events + 2
   page_events k a b true w = w.1.events
   page_events k a b false w = w.2.events
+
+-- where no write failed, none of a region did
+fails_of : (r : ℕ) (e : Entry) → is_failed_write e ≡ false → is_failed_write_of r e ≡ false
+fails_of r (entry.WriteFailed k n) h = absurd cc
+fails_of r e h = refl
+
+none_failed_of : (r : ℕ) (es : List Entry) → list_any is_failed_write es ≡ false → list_any (is_failed_write_of r) es ≡ false
+none_failed_of r [] h = refl
+none_failed_of r (e ∷ es) h =
+    let parts = or_parts (is_failed_write e) (list_any is_failed_write es) h in
+    ap (λ x. x || list_any (is_failed_write_of r) es) (fails_of r e parts.0) ∙ none_failed_of r es parts.1
 
 -- ---- keys in their order
 
@@ -195,12 +206,12 @@ left c after = length (filter (λ (j : Key). is_dirty c j && is_past after j) (k
 -- what trying to write the dirty pages that aren't past a key has done
 pub record Tried {J : Type 0} (has_noted : J → History Entry → Type 0) (after : Option Key) (failed : Bool) (old new : StripeSeen J) : Type 0 where
   pub rest : IsAtRest new.core
-  pub back : WroteBack has_noted failed old new
+  pub back : WroteBack 0 has_noted failed old new
   pub owes : NoMoreOwed old.core new.core
   pub counts : CountsGrow old.core new.core
   pub rose : failed ≡ true → (r : ℕ) × RoseAt old.core new.core r
   pub behind : (j : Key) → is_past after j ≡ false → is_dirty new.core j ≡ true → RoseAt old.core new.core j.region
-  pub clean : failed ≡ false → (j : Key) → is_past after j ≡ false → is_dirty new.core j ≡ false
+  pub clean : (j : Key) → is_past after j ≡ false → list_any (is_failed_write_of j.region) back.entries ≡ false → is_dirty new.core j ≡ false
   pub ahead : (j : Key) → is_past after j ≡ true → is_dirty new.core j ≡ is_dirty old.core j
   pub rising : Falls (tries back.entries)
   pub each : (j : Key) → is_in j (tries back.entries) ≡ (is_dirty old.core j && not (is_past after j))
@@ -237,7 +248,7 @@ module _ {J : Type 0} (noted : J → History Entry → Type 0) where
     counts = λ r. omega arith;
     rose = λ e. absurd cc;
     behind = λ j e f. absurd cc;
-    clean = λ e j f. absurd cc;
+    clean = λ j e none. absurd cc;
     ahead = λ j e. refl;
     rising = tt;
     each = λ j. none_of (is_dirty a.core j);
@@ -245,14 +256,14 @@ module _ {J : Type 0} (noted : J → History Entry → Type 0) where
   }
 
 module _ {J : Type 0} (noted : J → History Entry → Type 0) (laws : Laws) (after : Option Key) (failed now : Bool) (k : Key) (o a b : StripeSeen J)
-    (t : Tried noted after failed o a) (next : IsNextToFlush a.core after k) (rest : IsAtRest b.core) (does : Tries k now a.core b.core) (went : TriesToWrite noted k now a b) where
+    (t : Tried noted after failed o a) (next : IsNextToFlush a.core after k) (rest : IsAtRest b.core) (does : Tries k now a.core b.core) (went : TriesToWrite 0 noted k now a b) where
   here : is_home a.core k.region ≡ true
   here = t.rest.home k.region (laws.pages.region a.core.setup k next.page)
 
   grows : CountsGrow a.core b.core
   grows = page_grows a.core b.core k laws t.rest here now does
 
-  abbrev back : WroteBack noted (failed || now) o b
+  abbrev back : WroteBack 0 noted (failed || now) o b
   back = back_twice noted failed now o a b t.back (page_back noted k a b now went)
 
   keyed : tries back.entries ≡ k ∷ tries t.back.entries
@@ -313,22 +324,27 @@ module _ {J : Type 0} (noted : J → History Entry → Type 0) (laws : Laws) (af
       itself is true f = subst (λ (i : Key). RoseAt o.core b.core i.region) is (rose_before o.core a.core b.core k.region t.counts (page_failed a.core b.core k laws t.rest here f))
       itself is false w = absurd (let gone : is_dirty b.core j ≡ false = ap (is_dirty b.core) (sym is) ∙ written_clean a.core b.core k w in let no : true ≡ false = sym d ∙ gone in cc)
 
-  clean : (failed || now) ≡ false → (j : Key) → is_below k j ≡ false → is_dirty b.core j ≡ false
-  clean e j low = false_from_ne_true (is_dirty b.core j) (λ d.
-      let parts = or_parts failed now e in
+  clean : (j : Key) → is_below k j ≡ false → list_any (is_failed_write_of j.region) back.entries ≡ false → is_dirty b.core j ≡ false
+  clean j low none = false_from_ne_true (is_dirty b.core j) (λ d.
+      let its : List Entry = (page_back noted k a b now went).entries in
+      let both : (list_any (is_failed_write_of j.region) its || list_any (is_failed_write_of j.region) t.back.entries) ≡ false = sym (list_any-append (is_failed_write_of j.region) its t.back.entries) ∙ none in
+      let parts = or_parts (list_any (is_failed_write_of j.region) its) (list_any (is_failed_write_of j.region) t.back.entries) both in
       elim (cases_Bool (same k j)) [
-        | inl t' ↦ itself (same-true k j t') now parts.1 does d
+        | inl t' ↦ itself (same-true k j t') now went parts.0 does d
         | inr ne ↦
             let was = page_dirty a.core b.core k now does j d in
             elim (cases_Bool (is_past after j)) [
               | inl past ↦ let gone = passed j ne low past in let no : true ≡ false = sym was ∙ gone in cc
-              | inr before ↦ let gone = t.clean parts.0 j before in let no : true ≡ false = sym was ∙ gone in cc
+              | inr before ↦ let gone = t.clean j before parts.1 in let no : true ≡ false = sym was ∙ gone in cc
             ]
       ])
     where
-      itself : k ≡ j → (x : Bool) → x ≡ false → Tries k x a.core b.core → is_dirty b.core j ≡ true → ⊥
-      itself is true n f d = absurd cc
-      itself is false n w d = let gone : is_dirty b.core j ≡ false = ap (is_dirty b.core) (sym is) ∙ written_clean a.core b.core k w in let no : true ≡ false = sym d ∙ gone in cc
+      itself : k ≡ j → (x : Bool) (w : TriesToWrite 0 noted k x a b) → list_any (is_failed_write_of j.region) (page_back noted k a b x w).entries ≡ false → Tries k x a.core b.core → is_dirty b.core j ≡ true → ⊥
+      itself is true went' n f d =
+          let here : (k.region == j.region) ≡ true = eq-eqb k.region j.region (ap (λ (i : Key). i.region) is) in
+          let gone : (k.region == j.region) ≡ false = (or_parts (k.region == j.region) false n).0 in
+          let no : true ≡ false = sym here ∙ gone in cc
+      itself is false went' n w d = let gone : is_dirty b.core j ≡ false = ap (is_dirty b.core) (sym is) ∙ written_clean a.core b.core k w in let no : true ≡ false = sym d ∙ gone in cc
 
   ahead : (j : Key) → is_below k j ≡ true → is_dirty b.core j ≡ is_dirty o.core j
   ahead j above =
@@ -380,7 +396,7 @@ flush_stores : (e : Entry) → flushes e ≡ true → stores_nothing e ≡ true
 flush_stores (entry.Save j place bytes) e = absurd cc
 flush_stores x e = refl
 
-pub flushes_hold : (laws : Laws) {J : Type 0} (noted : J → History Entry → Type 0) (failed : Bool) (old new : StripeSeen J) → IsAtRest old.core → IsAtRest new.core → WroteBack noted failed old new → HoldsSame old.core new.core
+pub flushes_hold : (laws : Laws) {J : Type 0} (noted : J → History Entry → Type 0) (failed : Bool) (old new : StripeSeen J) → IsAtRest old.core → IsAtRest new.core → WroteBack 0 noted failed old new → HoldsSame old.core new.core
 flushes_hold laws noted failed old new a b w = holds_same laws noted w.entries old new a b w.went (list_weaker flushes stores_nothing w.entries flush_stores w.pass)
 
 module _ {J : Type 0} (noted : J → History Entry → Type 0) (laws : Laws) (after : Option Key) (failed : Bool) (o a : StripeSeen J) (t : Tried noted after failed o a) (end : next_dirty a.core after ≡ None) where
@@ -390,7 +406,7 @@ module _ {J : Type 0} (noted : J → History Entry → Type 0) (laws : Laws) (af
   pub all_stored : failed ≡ false → (r : ℕ) → IsStored a.core r
   all_stored e r = stored laws a.core r t.rest (λ j at page. elim (cases_Bool (is_past after j)) [
     | inl past ↦ clean_past j past
-    | inr before ↦ t.clean e j before
+    | inr before ↦ t.clean j before (none_failed_of j.region t.back.entries (t.back.fails ∙ e))
   ])
 
   -- a region whose lane counts no more faults than before is all written
@@ -403,8 +419,12 @@ module _ {J : Type 0} (noted : J → History Entry → Type 0) (laws : Laws) (af
     | inr high ↦ inl high
   ]
 
-  pub each_once : WroteEach noted failed o a
-  each_once = record { back = t.back; once = record { rising = t.rising; each = λ j. t.each j ∙ whole j } }
+  pub each_once : WroteEach 0 noted failed o a
+  each_once = record {
+    back = t.back;
+    once = record { rising = t.rising; each = λ j. t.each j ∙ whole j };
+    clean = λ j none. elim (cases_Bool (is_past after j)) [ inl past ↦ clean_past j past | inr before ↦ t.clean j before none ];
+  }
     where
       whole : (j : Key) → (is_dirty o.core j && not (is_past after j)) ≡ is_dirty o.core j
       whole j = elim (cases_Bool (is_past after j)) [

@@ -13,7 +13,7 @@ use Rattle.page_model.specs.Setups.{regions}
 use Rattle.serial_pager.specs.Seen.{StripeSeen}
 use Rattle.serial_pager.specs.Holdings as one
 use Rattle.serial_pager.specs.Goings.{Went}
-use Rattle.serial_pager.specs.Writings.{RoseAt, TriesDirty, WroteBack, WroteEach, flushes, is_failed_write}
+use Rattle.serial_pager.specs.Writings.{LeavesClean, RoseAt, TriesDirty, WroteBack, WroteEach, flushes, is_failed_write}
 use Rattle.serial_pager.specs.InsideSound.{Flushes, FlushesAll, SomeRose}
 use Rattle.serial_pager.proofs.Lists.{slice_set_same, slice_set_other, slice_set_length}
 use Rattle.serial_pager.proofs.Unmade.{some_is}
@@ -110,18 +110,19 @@ tells failed x y result f rose stored next (inr (t, e)) = inr (e, λ r below. st
 
 -- the entries of the first stripes, and none yet of those behind them
 pub record Entries {J : Type 0} (noted : J → History Entry → Type 0) (failed : Bool) (upto : ℕ) (all now : List (StripeSeen J)) : Type 0 where
-  pub first : FlushesAll noted failed upto all now
+  pub first : FlushesAll 0 noted failed upto all now
   pub later : (s : ℕ) → upto ≤ s → first.made s ≡ []
 
 pub entries_none : {J : Type 0} (noted : J → History Entry → Type 0) (all : List (StripeSeen J)) → Entries noted false 0 all all
 entries_none {J} noted all = record {
   first = record {
     made = λ s. [];
-    went = λ s x y was is. subst (λ (z : StripeSeen J). Went noted [] x z) (some_is (sym was ∙ is)) (went_nowhere noted x);
+    went = λ s x y was is. subst (λ (z : StripeSeen J). Went 0 noted [] x z) (some_is (sym was ∙ is)) (went_nowhere noted x);
     pass = λ s. refl;
     some = λ e. absurd (cc);
     none = λ e s. refl;
     once = λ s x below. absurd (omega (arith, below));
+    clean = λ s y below. absurd (omega (arith, below));
   };
   later = λ s above. refl;
 }
@@ -131,22 +132,22 @@ pub flag_is : (failed result next : Bool) → ((result ≡ true) × (next ≡ tr
 flag_is failed result next (inl (t, e)) = ap (λ r. failed || r) t ∙ (or_true failed ∙ sym e)
 flag_is failed result next (inr (t, e)) = ap (λ r. failed || r) t ∙ (or_false failed ∙ sym e)
 
-module _ {J : Type 0} (noted : J → History Entry → Type 0) (all now : List (StripeSeen J)) (i : ℕ) (x y : StripeSeen J) (failed result : Bool) (many : length now ≡ length all) (was : slice_get now i ≡ Some x) (starts : slice_get all i ≡ Some x) (entries : Entries noted failed i all now) (each : WroteEach noted result x y) where
-  abbrev f : FlushesAll noted failed i all now
+module _ {J : Type 0} (noted : J → History Entry → Type 0) (all now : List (StripeSeen J)) (i : ℕ) (x y : StripeSeen J) (failed result : Bool) (many : length now ≡ length all) (was : slice_get now i ≡ Some x) (starts : slice_get all i ≡ Some x) (entries : Entries noted failed i all now) (each : WroteEach 0 noted result x y) where
+  abbrev f : FlushesAll 0 noted failed i all now
   f = entries.first
 
-  abbrev w : WroteBack noted result x y
+  abbrev w : WroteBack 0 noted result x y
   w = each.back
 
   abbrev made_at : (s : ℕ) → (s ≡ i) ⊎ (s ≡ i → ⊥) → List Entry
   made_at s (inl here) = w.entries ++ f.made s
   made_at s (inr other) = f.made s
 
-  went_at : (s : ℕ) (a b : StripeSeen J) (c : (s ≡ i) ⊎ (s ≡ i → ⊥)) → slice_get all s ≡ Some a → slice_get (slice_set now i y) s ≡ Some b → Went noted (made_at s c) a b
+  went_at : (s : ℕ) (a b : StripeSeen J) (c : (s ≡ i) ⊎ (s ≡ i → ⊥)) → slice_get all s ≡ Some a → slice_get (slice_set now i y) s ≡ Some b → Went 0 noted (made_at s c) a b
   went_at s a b (inl here) e g =
       let before = f.went s a x e (ap (slice_get now) here ∙ was) in
       let second : y ≡ b = some_is (sym (slice_set_same now i x y was) ∙ sym (ap (slice_get (slice_set now i y)) here) ∙ g) in
-      subst (λ (z : StripeSeen J). Went noted (w.entries ++ f.made s) a z) second (went_twice noted (f.made s) w.entries a x y before w.went)
+      subst (λ (z : StripeSeen J). Went 0 noted (w.entries ++ f.made s) a z) second (went_twice noted (f.made s) w.entries a x y before w.went)
   went_at s a b (inr other) e g = f.went s a b e (sym (slice_set_other now i s y other) ∙ g)
 
   pass_at : (s : ℕ) (c : (s ≡ i) ⊎ (s ≡ i → ⊥)) → list_all flushes (made_at s c) ≡ true
@@ -173,11 +174,19 @@ module _ {J : Type 0} (noted : J → History Entry → Type 0) (all now : List (
       subst (λ (z : StripeSeen J). TriesDirty z.core (w.entries ++ f.made s)) same_stripe (subst (λ es. TriesDirty x.core es) same_entries each.once)
   once_at s a (inr other) below e = f.once s a (omega (arith, below, other)) e
 
+  clean_at : (s : ℕ) (b : StripeSeen J) (c : (s ≡ i) ⊎ (s ≡ i → ⊥)) → s < i + 1 → slice_get (slice_set now i y) s ≡ Some b → LeavesClean (made_at s c) b.core
+  clean_at s b (inl here) below g =
+      let none : f.made s ≡ [] = entries.later s (omega (arith, here)) in
+      let same_entries : w.entries ≡ w.entries ++ f.made s = sym (ap (λ es. w.entries ++ es) none ∙ append-nil w.entries) in
+      let second : y ≡ b = some_is (sym (slice_set_same now i x y was) ∙ sym (ap (slice_get (slice_set now i y)) here) ∙ g) in
+      subst (λ (z : StripeSeen J). LeavesClean (w.entries ++ f.made s) z.core) second (subst (λ es. LeavesClean es y.core) same_entries each.clean)
+  clean_at s b (inr other) below g = f.clean s b (omega (arith, below, other)) (sym (slice_set_other now i s y other) ∙ g)
+
   later_at : (s : ℕ) (c : (s ≡ i) ⊎ (s ≡ i → ⊥)) → i + 1 ≤ s → made_at s c ≡ []
   later_at s (inl here) above = absurd (omega (arith, here, above))
   later_at s (inr other) above = entries.later s (omega (arith, above))
 
-  abbrev with_next : FlushesAll noted (failed || result) (i + 1) all (slice_set now i y)
+  abbrev with_next : FlushesAll 0 noted (failed || result) (i + 1) all (slice_set now i y)
   with_next = record {
     made = λ s. made_at s (cases_eq s i);
     went = λ s a b e g. went_at s a b (cases_eq s i) e g;
@@ -188,6 +197,7 @@ module _ {J : Type 0} (noted : J → History Entry → Type 0) (all now : List (
     ];
     none = λ e s. let parts = or_parts failed result e in fails_nowhere s (cases_eq s i) parts.0 parts.1;
     once = λ s a below e. once_at s a (cases_eq s i) below e;
+    clean = λ s b below g. clean_at s b (cases_eq s i) below g;
   }
 
   pub entries_more : (next : Bool) → (failed || result) ≡ next → Entries noted next (i + 1) all (slice_set now i y)

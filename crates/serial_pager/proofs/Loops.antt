@@ -38,7 +38,7 @@ use Rattle.serial_pager.proofs.Turns.{absent_page, raises_no_more, serves_fewer,
 -- ---- what the pages hold
 
 -- entries that store nothing leave what each page holds
-pub holds_same : (laws : Laws) {J : Type 0} (noted : J → History Entry → Type 0) (es : List Entry) (old new : StripeSeen J) → IsAtRest old.core → IsAtRest new.core → Went noted es old new → list_all stores_nothing es ≡ true → HoldsSame old.core new.core
+pub holds_same : (laws : Laws) {J : Type 0} (noted : J → History Entry → Type 0) (es : List Entry) (old new : StripeSeen J) → IsAtRest old.core → IsAtRest new.core → Went 0 noted es old new → list_all stores_nothing es ≡ true → HoldsSame old.core new.core
 holds_same laws noted es old new a b w none k page =
     let h = a.history in
     let there : has_page new.core.setup k ≡ true = subst (λ (s : Setup). has_page s k ≡ true) (sym w.setup) page in
@@ -172,7 +172,7 @@ raises_events k why c d w = elim w [
 -- the turns that an access of page k took from `old` to `new`; `owed` names the pages that may have to be written
 pub record Turned {J : Type 0} (has_noted : J → History Entry → Type 0) (stores : Bool) (reasons : Why → Bool) (k : Key) (owed : Key → Bool) (old new : StripeSeen J) : Type 0 where
   pub rest : IsAtRest new.core
-  pub went : WentBy has_noted (serves k reasons) old new
+  pub went : WentBy 0 has_noted (serves k reasons) old new
   pub owes_ : (j : Key) → owes new.core j ≡ true → owed j ≡ true
   pub counts : CountsGrow old.core new.core
   pub fewer : new.core.events + 3 * turns_left stores new.core k ≤ old.core.events + 3 * turns_left stores old.core k
@@ -184,7 +184,7 @@ module _ {J : Type 0} (noted : J → History Entry → Type 0) (stores : Bool) (
   -- what an access has raised and not yet been served
   pub record Asked (why : Why) (a b : StripeSeen J) : Type 0 where
     pub rest : IsAtRest b.core
-    pub went : WentBy noted (serves k reasons) a b
+    pub went : WentBy 0 noted (serves k reasons) a b
     pub raises : Raises k why a.core b.core
     pub missed : misses stores (page_in b.core.pages k) ≡ true
     pub right : own stores (page_in b.core.pages k) (Some (record { key = k; why = why })) ≡ 0
@@ -202,7 +202,7 @@ module _ {J : Type 0} (noted : J → History Entry → Type 0) (stores : Bool) (
       raises_no_more stores k why a.core b.core q.raises (subst (λ o. misses stores o ≡ true) pages q.missed) (subst (λ o. own stores o (Some (record { key = k; why = why })) ≡ 0) pages q.right)
 
   -- a whole turn
-  pub turned_once : (laws : Laws) (why : Why) (o a b c : StripeSeen J) → Turned noted stores reasons k owed o a → Asked why a b → IsAtRest c.core → WentBy noted (serves k reasons) b c → Serves k b.core c.core → Turned noted stores reasons k owed o c
+  pub turned_once : (laws : Laws) (why : Why) (o a b c : StripeSeen J) → Turned noted stores reasons k owed o a → Asked why a b → IsAtRest c.core → WentBy 0 noted (serves k reasons) b c → Serves k b.core c.core → Turned noted stores reasons k owed o c
   turned_once laws why o a b c t q rest went w = record {
     rest = rest;
     went = by_twice noted (serves k reasons) o a c t.went (by_twice noted (serves k reasons) a b c q.went went);
@@ -224,7 +224,7 @@ module _ {J : Type 0} (noted : J → History Entry → Type 0) (stores : Bool) (
       omega (arith, less, most)
 
   -- a turn at which the store fails
-  pub failed_access : (why : Why) (o a b c : StripeSeen J) (f : PageFault) → Turned noted stores reasons k owed o a → Asked why a b → AccessFails noted k reasons (is_dirty b.core) b c f → AccessFails noted k reasons owed o c f
+  pub failed_access : (why : Why) (o a b c : StripeSeen J) (f : PageFault) → Turned noted stores reasons k owed o a → Asked why a b → AccessFails 0 noted k reasons (is_dirty b.core) b c f → AccessFails 0 noted k reasons owed o c f
   failed_access why o a b c f t q w = elim w [
     | inl read ↦ inl (record { key = read.key; went = to_after noted (serves k reasons) (entry.ReadFailed f.key f.faults) o b c before read.went })
     | inr write ↦ inr (record {
@@ -233,7 +233,7 @@ module _ {J : Type 0} (noted : J → History Entry → Type 0) (stores : Bool) (
     })
   ]
     where
-      before : WentBy noted (serves k reasons) o b
+      before : WentBy 0 noted (serves k reasons) o b
       before = by_twice noted (serves k reasons) o a b t.went q.went
 
   pub failed_owes : (why : Why) (o a b c : StripeSeen J) (f : PageFault) → Turned noted stores reasons k owed o a → Asked why a b → Faults k b.core c.core f → (j : Key) → owes c.core j ≡ true → owed j ≡ true
@@ -269,23 +269,23 @@ module _ {J : Type 0} (noted : J → History Entry → Type 0) (stores : Bool) (
   pub turned_holds : (laws : Laws) (o a : StripeSeen J) → IsAtRest o.core → Turned noted stores reasons k owed o a → HoldsSame o.core a.core
   turned_holds laws o a rest t = holds_same laws noted t.went.entries o a rest t.rest t.went.went (serving_stores_nothing k reasons t.went.entries t.went.pass)
 
-  pub failed_holds : (laws : Laws) (o c : StripeSeen J) (f : PageFault) → IsAtRest o.core → IsAtRest c.core → AccessFails noted k reasons owed o c f → HoldsSame o.core c.core
+  pub failed_holds : (laws : Laws) (o c : StripeSeen J) (f : PageFault) → IsAtRest o.core → IsAtRest c.core → AccessFails 0 noted k reasons owed o c f → HoldsSame o.core c.core
   failed_holds laws o c f old new w = elim w [
     | inl read ↦ holds_same laws noted (entry.ReadFailed f.key f.faults ∷ read.went.before) o c old new read.went.went (serving_stores_nothing k reasons read.went.before read.went.pass)
     | inr write ↦ holds_same laws noted (entry.WriteFailed f.key f.faults ∷ write.went.before) o c old new write.went.went (serving_stores_nothing k reasons write.went.before write.went.pass)
   ]
 
-  pub failed_setup : (o c : StripeSeen J) (f : PageFault) → AccessFails noted k reasons owed o c f → c.core.setup ≡ o.core.setup
+  pub failed_setup : (o c : StripeSeen J) (f : PageFault) → AccessFails 0 noted k reasons owed o c f → c.core.setup ≡ o.core.setup
   failed_setup o c f w = elim w [ inl read ↦ read.went.went.setup | inr write ↦ write.went.went.setup ]
 
   -- the last entry, after the turns
-  pub turned_to : (o a c : StripeSeen J) (last : Entry) → Turned noted stores reasons k owed o a → Went noted (last ∷ []) a c → WentTo noted (serves k reasons) last o c
+  pub turned_to : (o a c : StripeSeen J) (last : Entry) → Turned noted stores reasons k owed o a → Went 0 noted (last ∷ []) a c → WentTo 0 noted (serves k reasons) last o c
   turned_to o a c last t w = to_after noted (serves k reasons) last o a c t.went (to_these noted (serves k reasons) last [] a c w refl)
 
 -- ---- what is asked
 
 module _ {J : Type 0} (noted : J → History Entry → Type 0) (k : Key) (owed : Key → Bool) (a b : StripeSeen J) where
-  pub asks_load : IsAtRest b.core → WentBy noted (serves k is_read) a b → Raises k Read a.core b.core → is_present b.core k ≡ false → Asked noted false is_read k owed Read a b
+  pub asks_load : IsAtRest b.core → WentBy 0 noted (serves k is_read) a b → Raises k Read a.core b.core → is_present b.core k ≡ false → Asked noted false is_read k owed Read a b
   asks_load rest went raises gone =
       let none : page_in b.core.pages k ≡ None = absent_page b.core k gone in
       record {
@@ -297,7 +297,7 @@ module _ {J : Type 0} (noted : J → History Entry → Type 0) (k : Key) (owed :
         owed_ = λ e. absurd cc;
       }
 
-  pub asks_store : IsAtRest b.core → WentBy noted (serves k is_for_store) a b → Raises k (why_shut a.core k) a.core b.core → is_shut b.core k ≡ true → owed k ≡ true → Asked noted true is_for_store k owed (why_shut a.core k) a b
+  pub asks_store : IsAtRest b.core → WentBy 0 noted (serves k is_for_store) a b → Raises k (why_shut a.core k) a.core b.core → is_shut b.core k ≡ true → owed k ≡ true → Asked noted true is_for_store k owed (why_shut a.core k) a b
   asks_store rest went raises shut mine =
       record {
         rest = rest;

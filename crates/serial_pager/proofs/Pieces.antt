@@ -1,6 +1,6 @@
 -- A piece on one stripe of a pager: what its call asks for, and what it leaves.
-use Rattle.std.proofs.Common.{◌≡◌, ◌⊎◌, inl, inr, ℕ, ◌+◌, ◌*◌, ◌^◌, ◌<◌, ◌≤◌, Bool, true, List, length, get_or, Option, Some, None, Result, Ok, Err, OnOk, OnErr, IfErr, slice_get, slice_set, refl, sym, ap, subst, ◌∙◌, arith}
-use Rattle.std.proofs.lemmas.Bool.{cases_eq, or_cases}
+use Rattle.std.proofs.Common.{◌≡◌, ◌⊎◌, inl, inr, ℕ, ◌+◌, ◌*◌, ◌^◌, ◌<◌, ◌≤◌, Bool, true, List, length, get_or, Option, Some, None, Result, Ok, Err, OnOk, OnErr, IfErr, slice_get, slice_set, [], ◌∷◌, cond, eqb, false, refl, sym, ap, subst, ◌∙◌, arith}
+use Rattle.std.proofs.lemmas.Bool.{cases_Bool, cases_eq, eq-eqb, eqb-true, or_cases}
 use Rattle.page_base.specs.Pages.{same}
 use Rattle.std.proofs.lemmas.Option.{slice_get_read}
 use Rattle.histories.specs.Histories.{History}
@@ -8,6 +8,7 @@ use Rattle.page_base.specs.declared.keys.Key.{Key}
 use Rattle.page_base.specs.declared.keys.Why.{Why}
 use Rattle.page_base.specs.Lanes.{Rose}
 use Rattle.page_model.specs.declared.entry.Entry.{Entry}
+use Rattle.page_model.specs.declared.entry.Entry.TheVariants.{ReadFailed, WriteFailed}
 use Rattle.page_model.specs.Core.{Core, reads_out, frames_held}
 use Rattle.page_model.specs.Events.{InPage}
 use Rattle.page_model.specs.Setups as setup
@@ -17,15 +18,17 @@ use Rattle.stripe_core.specs.declared.config.StripeConfig.{StripeConfig}
 use Rattle.serial_pager.specs.declared.fault.PageFault.{PageFault}
 use Rattle.serial_pager.specs.Seen.{StripeSeen}
 use Rattle.serial_pager.specs.Rests.{IsAtRest}
-use Rattle.serial_pager.specs.Goings.{WentTo}
+use Rattle.serial_pager.specs.Goings.{Went, WentTo}
 use Rattle.serial_pager.specs.Accesses.{NamesCount, WriteFails, AccessFails, serves}
 use Rattle.serial_pager.specs.Holdings as stripe
-use Rattle.serial_pager.specs.Pagers.{PagerSeen, core_in, has_key, stripe_at, count_at, IsPiece, IsSame, IsWithin, OnStripe, NamesFault}
+use Rattle.serial_pager.specs.Pagers.{PagerSeen, core_in, has_key, stripe_at, count_at, IsPiece, IsSame, IsWithin, WentToIn, PieceFails, NamesFault, made_in}
 use Rattle.serial_pager.specs.Sound.{seen_of}
 use Rattle.serial_pager.specs.InsideSound.{IsStripe, IsSound}
+use Rattle.serial_pager.proofs.Goes.{went_nowhere}
 use Rattle.serial_pager.proofs.Keys.{same-true}
 use Rattle.serial_pager.proofs.Lists.{slice_set_same, slice_set_other}
 use Rattle.serial_pager.proofs.Stripes.{as_many, pages_of_stripe, stripe_of_pages, setups_same, owes_was, count_here, count_was}
+use Rattle.serial_pager.proofs.Unmade.{some_is}
 
 -- stripe s is there, and its core is that of stripe s
 pub record Touches {J : Type 0} (p : PagerSeen J) (s : ℕ) (x : StripeSeen J) : Type 0 where
@@ -102,9 +105,6 @@ module _ {J : Type 0} (old new : PagerSeen J) (s : ℕ) (x y : StripeSeen J) (t 
           from d None = d
           from d (Some v) = v
 
-  pub on_stripe : (Does : StripeSeen J → StripeSeen J → Type 0) → Does x y → OnStripe s Does old new
-  on_stripe Does does = record { before = x; after = y; was = t.was; is = is; does = does }
-
 -- no more pages are resident than there are frames
 pub within_of : {J : Type 0} (p : PagerSeen J) → IsSound p → ((h : History Entry) (c : Core) → StandsFor h c → length c.pages + reads_out c ≤ frames_held c) → IsWithin p
 within_of {J} p sound law s c e = go (slice_get p.stripes s) refl e
@@ -123,24 +123,56 @@ within_of {J} p sound law s c e = go (slice_get p.stripes s) refl e
             from d None = d
             from d (Some v) = v
 
+-- ---- entries
+
+other-eqb : (a b : ℕ) → (a ≡ b → ⊥) → eqb a b ≡ false
+other-eqb a b other = elim (cases_Bool (eqb a b)) [ inl e ↦ absurd (other (eqb-true a b e)) | inr e ↦ e ]
+
+-- what one stripe made is all that was made
+module _ {J : Type 0} (has_noted : J → History Entry → Type 0) (old new : PagerSeen J) (s : ℕ) (x y : StripeSeen J) (t : Touches old s x) (is : new.stripes ≡ slice_set old.stripes s y) where
+  pub went_in : (passes : Entry → Bool) (last : Entry) → WentTo 0 has_noted passes last x y → WentToIn 0 has_noted s passes last old new
+  went_in passes last w = record { before = w.before; pass = w.pass; went = λ n a b e g. at n a b e g (cases_eq n s) }
+    where
+      at : (n : ℕ) (a b : StripeSeen J) → slice_get old.stripes n ≡ Some a → slice_get new.stripes n ≡ Some b → (n ≡ s) ⊎ (n ≡ s → ⊥) → Went 0 has_noted (made_in s (last ∷ w.before) n) a b
+      at n a b e g (inl here) =
+          let first : x ≡ a = some_is (sym t.was ∙ (ap (slice_get old.stripes) (sym here) ∙ e)) in
+          let second : y ≡ b = some_is (sym (slice_set_same old.stripes s x y t.was) ∙ (sym (ap (λ (ss : List (StripeSeen J)). slice_get ss s) is) ∙ (ap (slice_get new.stripes) (sym here) ∙ g))) in
+          subst (λ (v : Bool). Went 0 has_noted (cond v (last ∷ w.before) []) a b) (sym (eq-eqb n s here))
+          (subst (λ (v : StripeSeen J). Went 0 has_noted (last ∷ w.before) v b) first (subst (λ (v : StripeSeen J). Went 0 has_noted (last ∷ w.before) x v) second w.went))
+      at n a b e g (inr other) =
+          let same : a ≡ b = some_is (sym e ∙ (sym (slice_set_other old.stripes s n y other) ∙ (sym (ap (λ (ss : List (StripeSeen J)). slice_get ss n) is) ∙ g))) in
+          subst (λ (v : Bool). Went 0 has_noted (cond v (last ∷ w.before) []) a b) (sym (other-eqb n s other))
+          (subst (λ (v : StripeSeen J). Went 0 has_noted [] a v) same (went_nowhere has_noted a))
+
 -- ---- faults
 
-core_of_fault : {J : Type 0} (has_noted : J → History Entry → Type 0) (k : Key) (reasons : Why → Bool) (x y : StripeSeen J) (f : PageFault) → IsAtRest x.core → WriteFails has_noted k reasons (λ j. true) x y f → setup.has_page x.core.setup f.key ≡ true
+core_of_fault : {J : Type 0} (has_noted : J → History Entry → Type 0) (k : Key) (reasons : Why → Bool) (x y : StripeSeen J) (f : PageFault) → IsAtRest x.core → WriteFails 0 has_noted k reasons (λ j. true) x y f → setup.has_page x.core.setup f.key ≡ true
 core_of_fault has_noted k reasons x y f rest w =
     subst (λ (u : Setup). setup.has_page u f.key ≡ true) w.went.went.setup (w.went.went.stands rest.history rest.stands).legal.1
 
 module _ {J : Type 0} (has_noted : J → History Entry → Type 0) (k : Key) (reasons : Why → Bool) where
-  pub access_setup : {T : Type 0} (result : Result T PageFault) (last : Entry) (may_owe : Key → Bool) (x y : StripeSeen J) → OnOk result (WentTo has_noted (serves k reasons) last x y)
-      → IfErr result (λ f. AccessFails has_noted k reasons may_owe x y f) → y.core.setup ≡ x.core.setup
+  pub access_setup : {T : Type 0} (result : Result T PageFault) (last : Entry) (may_owe : Key → Bool) (x y : StripeSeen J) → OnOk result (WentTo 0 has_noted (serves k reasons) last x y)
+      → IfErr result (λ f. AccessFails 0 has_noted k reasons may_owe x y f) → y.core.setup ≡ x.core.setup
   access_setup (Ok v) last may_owe x y went fails = went.went.setup
   access_setup (Err f) last may_owe x y went (inl r) = r.went.went.setup
   access_setup (Err f) last may_owe x y went (inr w) = w.went.went.setup
 
   -- the fault of a piece of page k, as all pages see it
   module _ (old new : PagerSeen J) (s : ℕ) (x y : StripeSeen J) (t : Touches old s x) (is : new.stripes ≡ slice_set old.stripes s y) (shapes : new.shapes ≡ old.shapes) (at : s ≡ stripe_at old k) (page : has_key old k ≡ true) where
-    names : (may_owe : Key → Bool) → ((j : Key) → may_owe j ≡ true → (stripe.owes x.core j ≡ true) ⊎ (j ≡ k)) → (f : PageFault) → AccessFails has_noted k reasons may_owe x y f → NamesCount x.core y.core f → NamesFault k old new f
+    place : (may_owe : Key → Bool) (f : PageFault) → AccessFails 0 has_noted k reasons may_owe x y f → (has_key old f.key ≡ true) × (stripe_at old f.key ≡ s)
+    place may_owe f (inl r) = (ap (has_key old) r.key ∙ page, ap (stripe_at old) r.key ∙ sym at)
+    place may_owe f (inr w) = pages_of_stripe old s x.core t.part f.key (core_of_fault has_noted k reasons x y f t.part.rest (record { owed = refl; went = w.went }))
+
+    pub piece_fails : (may_owe own : Key → Bool) → ((j : Key) → stripe_at old j ≡ s → may_owe j ≡ true → own j ≡ true) → (f : PageFault) → AccessFails 0 has_noted k reasons may_owe x y f → PieceFails 0 has_noted k reasons own old new f
+    piece_fails may_owe own weak f (inl r) = inl (r.key, subst (λ (n : ℕ). WentToIn 0 has_noted n (serves k reasons) (ReadFailed f.key f.faults) old new) at (went_in has_noted old new s x y t is (serves k reasons) (ReadFailed f.key f.faults) r.went))
+    piece_fails may_owe own weak f (inr w) = inr (
+      weak f.key (place may_owe f (inr w)).1 w.owed,
+      subst (λ (n : ℕ). WentToIn 0 has_noted n (serves k reasons) (WriteFailed f.key f.faults) old new) at (went_in has_noted old new s x y t is (serves k reasons) (WriteFailed f.key f.faults) w.went),
+    )
+
+    names : (may_owe : Key → Bool) → ((j : Key) → may_owe j ≡ true → (stripe.owes x.core j ≡ true) ⊎ (j ≡ k)) → (f : PageFault) → AccessFails 0 has_noted k reasons may_owe x y f → NamesCount x.core y.core f → NamesFault k old new f
     names may_owe from f fails count =
-        let found = place f fails in
+        let found = place may_owe f fails in
         let whose = asked f fails in
         record {
           page = found.0;
@@ -153,15 +185,11 @@ module _ {J : Type 0} (has_noted : J → History Entry → Type 0) (k : Key) (re
           rose = subst (λ n. Rose n f.faults) (sym (ap (λ q. count_at old q f.key.region) (sym at) ∙ count_was old new s x y t.was is shapes f.key.region)) count.rose;
         }
       where
-        place : (f : PageFault) → AccessFails has_noted k reasons may_owe x y f → (has_key old f.key ≡ true) × (stripe_at old f.key ≡ s)
-        place f (inl r) = (ap (has_key old) r.key ∙ page, ap (stripe_at old) r.key ∙ sym at)
-        place f (inr w) = pages_of_stripe old s x.core t.part f.key (core_of_fault has_noted k reasons x y f t.part.rest (record { owed = refl; went = w.went }))
-
-        asked : (f : PageFault) → AccessFails has_noted k reasons may_owe x y f → (f.key ≡ k) ⊎ (stripe.owes x.core f.key ≡ true)
+        asked : (f : PageFault) → AccessFails 0 has_noted k reasons may_owe x y f → (f.key ≡ k) ⊎ (stripe.owes x.core f.key ≡ true)
         asked f (inl r) = inl r.key
         asked f (inr w) = elim (from f.key w.owed) [ inl e ↦ inr e | inr e ↦ inl e ]
 
-    pub names_on : {T : Type 0} (result : Result T PageFault) (may_owe : Key → Bool) → ((j : Key) → may_owe j ≡ true → (stripe.owes x.core j ≡ true) ⊎ (j ≡ k)) → IfErr result (λ f. AccessFails has_noted k reasons may_owe x y f) → IfErr result (λ f. NamesCount x.core y.core f) → IfErr result (λ f. NamesFault k old new f)
+    pub names_on : {T : Type 0} (result : Result T PageFault) (may_owe : Key → Bool) → ((j : Key) → may_owe j ≡ true → (stripe.owes x.core j ≡ true) ⊎ (j ≡ k)) → IfErr result (λ f. AccessFails 0 has_noted k reasons may_owe x y f) → IfErr result (λ f. NamesCount x.core y.core f) → IfErr result (λ f. NamesFault k old new f)
     names_on (Ok v) may_owe from fails count = tt
     names_on (Err f) may_owe from fails count = names may_owe from f fails count
 

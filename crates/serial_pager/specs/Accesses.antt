@@ -45,32 +45,32 @@ pub record NamesCount (old new : Core) (f : PageFault) : Type 0 where
 
 module _ {J : Type 0} where
   -- a read of the page itself failed
-  pub record ReadFails (has_noted : J → History Entry → Type 0) (k : Key) (reasons : Why → Bool) (old new : StripeSeen J) (f : PageFault) : Type 0 where
+  pub record ReadFails (owner : ℕ) (has_noted : J → History Entry → Type 0) (k : Key) (reasons : Why → Bool) (old new : StripeSeen J) (f : PageFault) : Type 0 where
     pub key : f.key ≡ k
-    pub went : WentTo has_noted (serves k reasons) (ReadFailed f.key f.faults) old new
+    pub went : WentTo owner has_noted (serves k reasons) (ReadFailed f.key f.faults) old new
 
   -- a write failed that was to make room, of a page that may have had to be written
-  pub record WriteFails (has_noted : J → History Entry → Type 0) (k : Key) (reasons : Why → Bool) (may_owe : Key → Bool) (old new : StripeSeen J) (f : PageFault) : Type 0 where
+  pub record WriteFails (owner : ℕ) (has_noted : J → History Entry → Type 0) (k : Key) (reasons : Why → Bool) (may_owe : Key → Bool) (old new : StripeSeen J) (f : PageFault) : Type 0 where
     pub owed : may_owe f.key ≡ true
-    pub went : WentTo has_noted (serves k reasons) (WriteFailed f.key f.faults) old new
+    pub went : WentTo owner has_noted (serves k reasons) (WriteFailed f.key f.faults) old new
 
   -- an access of page k failed
-  abbrev pub AccessFails : (has_noted : J → History Entry → Type 0) → Key → (reasons : Why → Bool) → (may_owe : Key → Bool) → (old new : StripeSeen J) → PageFault → Type 0
-  AccessFails has_noted k reasons may_owe old new f =
-      ReadFails has_noted k reasons old new f ⊎ WriteFails has_noted k reasons may_owe old new f
+  abbrev pub AccessFails : (owner : ℕ) (has_noted : J → History Entry → Type 0) → Key → (reasons : Why → Bool) → (may_owe : Key → Bool) → (old new : StripeSeen J) → PageFault → Type 0
+  AccessFails owner has_noted k reasons may_owe old new f =
+      ReadFails owner has_noted k reasons old new f ⊎ WriteFails owner has_noted k reasons may_owe old new f
 
   -- a load of these bytes of page k, behind what served it
-  abbrev pub Loads : (has_noted : J → History Entry → Type 0) → Key → (place : ℕ) → List ℕ → (old new : StripeSeen J) → Type 0
-  Loads has_noted k place bytes = WentTo has_noted (serves k is_read) (Load k place bytes)
+  abbrev pub Loads : (owner : ℕ) (has_noted : J → History Entry → Type 0) → Key → (place : ℕ) → List ℕ → (old new : StripeSeen J) → Type 0
+  Loads owner has_noted k place bytes = WentTo owner has_noted (serves k is_read) (Load k place bytes)
 
   -- a store of these bytes to page k, behind what served it
-  abbrev pub Stores : (has_noted : J → History Entry → Type 0) → Key → (place : ℕ) → List ℕ → (old new : StripeSeen J) → Type 0
-  Stores has_noted k place bytes = WentTo has_noted (serves k is_for_store) (Save k place bytes)
+  abbrev pub Stores : (owner : ℕ) (has_noted : J → History Entry → Type 0) → Key → (place : ℕ) → List ℕ → (old new : StripeSeen J) → Type 0
+  Stores owner has_noted k place bytes = WentTo owner has_noted (serves k is_for_store) (Save k place bytes)
 
   -- a load of page k failed
-  abbrev pub LoadFails : (has_noted : J → History Entry → Type 0) → Key → (old new : StripeSeen J) → PageFault → Type 0
-  LoadFails has_noted k old new f = AccessFails has_noted k is_read (owes old.core) old new f
+  abbrev pub LoadFails : (owner : ℕ) (has_noted : J → History Entry → Type 0) → Key → (old new : StripeSeen J) → PageFault → Type 0
+  LoadFails owner has_noted k old new f = AccessFails owner has_noted k is_read (owes old.core) old new f
 
   -- a store to page k failed
-  abbrev pub StoreFails : (has_noted : J → History Entry → Type 0) → Key → (old new : StripeSeen J) → PageFault → Type 0
-  StoreFails has_noted k old new f = AccessFails has_noted k is_for_store (owes_with old.core k) old new f
+  abbrev pub StoreFails : (owner : ℕ) (has_noted : J → History Entry → Type 0) → Key → (old new : StripeSeen J) → PageFault → Type 0
+  StoreFails owner has_noted k old new f = AccessFails owner has_noted k is_for_store (owes_with old.core k) old new f

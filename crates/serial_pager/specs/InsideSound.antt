@@ -12,7 +12,7 @@ use Rattle.page_model.specs.Setups.{regions}
 use Rattle.serial_pager.specs.Goings.{Went}
 use Rattle.serial_pager.specs.Holdings as one
 use Rattle.serial_pager.specs.Holdings.{HoldsSame, CountsGrow}
-use Rattle.serial_pager.specs.Writings.{flushes, is_failed_write, RoseAt, IsTried, TriesDirty}
+use Rattle.serial_pager.specs.Writings.{flushes, is_failed_write, LeavesClean, RoseAt, IsTried, TriesDirty}
 use Rattle.serial_pager.specs.Rests.{IsAtRest}
 use Rattle.serial_pager.specs.Pagers.{PagerSeen, AreLanesOfCore}
 
@@ -58,13 +58,14 @@ abbrev pub AreStored : {J : Type 0} → List (StripeSeen J) → Type 0
 AreStored {J} stripes = (s : ℕ) (x : StripeSeen J) → slice_get stripes s ≡ Some x → (r : ℕ) → r < regions x.core.setup → one.IsStored x.core r
 
 -- each of the first `upto` of them has, by these entries, each dirty page once: a write of some stripe failed, or none did
-pub record FlushesAll {J : Type 0} (has_noted : J → History Entry → Type 0) (failed : Bool) (upto : ℕ) (old new : List (StripeSeen J)) : Type 0 where
+pub record FlushesAll {J : Type 0} (owner : ℕ) (has_noted : J → History Entry → Type 0) (failed : Bool) (upto : ℕ) (old new : List (StripeSeen J)) : Type 0 where
   pub made : ℕ → List Entry
-  pub went : (s : ℕ) (x y : StripeSeen J) → slice_get old s ≡ Some x → slice_get new s ≡ Some y → Went has_noted (made s) x y
+  pub went : (s : ℕ) (x y : StripeSeen J) → slice_get old s ≡ Some x → slice_get new s ≡ Some y → Went owner has_noted (made s) x y
   pub pass : (s : ℕ) → list_all flushes (made s) ≡ true
   pub some : failed ≡ true → (s : ℕ) × (s < length old) × (list_any is_failed_write (made s) ≡ true)
   pub none : failed ≡ false → (s : ℕ) → list_any is_failed_write (made s) ≡ false
   pub once : (s : ℕ) (x : StripeSeen J) → s < upto → slice_get old s ≡ Some x → TriesDirty x.core (made s)
+  pub clean : (s : ℕ) (y : StripeSeen J) → s < upto → slice_get new s ≡ Some y → LeavesClean (made s) y.core
 
 -- some lane of some stripe counts more faults than before
 pub record SomeRose {J : Type 0} (old new : List (StripeSeen J)) : Type 0 where

@@ -1,12 +1,14 @@
 -- What contracts see of a pager: its stripes, and what its pages hold whatever stripe they are in.
-use Rattle.std.specs.Prelude.{◌≡◌, ℕ, ◌+◌, ◌<◌, ◌≤◌, ◌⊎◌, Bool, true, false, nat_lt, List, [], length, map, slice_get, slice_set, Option, Some, None, IfSome, option_map}
+use Rattle.std.specs.Prelude.{◌≡◌, ℕ, ◌+◌, ◌<◌, ◌≤◌, ◌⊎◌, ◌==◌, ◌||◌, if◌then◌else◌, Bool, true, false, nat_lt, List, [], ◌∷◌, length, map, slice_get, Option, Some, None, IfSome, option_map}
 use Rattle.std.specs.List.{list_all, list_any}
 use Rattle.histories.specs.Histories.{History}
 use Rattle.page_base.specs.declared.keys.Key.{Key}
 use Rattle.page_base.specs.declared.keys.RegionShape.{RegionShape}
+use Rattle.page_base.specs.declared.keys.Why.{Why}
 use Rattle.page_base.specs.Lanes.{LaneSeen, Rose}
-use Rattle.page_base.specs.Pages.{stripe_of}
+use Rattle.page_base.specs.Pages.{same, stripe_of}
 use Rattle.page_model.specs.declared.entry.Entry.{Entry}
+use Rattle.page_model.specs.declared.entry.Entry.TheVariants.{Load, Save, ReadFailed, WriteFailed}
 use Rattle.page_model.specs.Setups.{Setup, quota, told_in, count_by, origin_of}
 use Rattle.page_model.specs.Core.{Core}
 use Rattle.page_model.specs.Readers.{IsHere}
@@ -20,9 +22,10 @@ use Rattle.serial_pager.specs.declared.fault.PageFault.{PageFault}
 use Rattle.serial_pager.specs.declared.pager.PagerConfig.{PagerConfig}
 use Rattle.serial_pager.specs.Seen.{StripeSeen}
 use Rattle.serial_pager.specs.Holdings as stripe
-use Rattle.serial_pager.specs.Accesses.{Loads, LoadFails, Stores, StoreFails}
+use Rattle.serial_pager.specs.Holdings.{is_for_store}
+use Rattle.serial_pager.specs.Accesses.{serves, is_read}
 use Rattle.serial_pager.specs.Goings.{Went}
-use Rattle.serial_pager.specs.Writings.{flushes, is_failed_write, TriesDirty}
+use Rattle.serial_pager.specs.Writings.{flushes, is_failed_write, LeavesClean, TriesDirty}
 
 -- the stripes in order of number; `spent` counts the pieces that were loaded or stored, and writing all dirty pages as MOST_STRIPES of them
 pub record PagerSeen (J : Type 0) : Type 0 where
@@ -86,6 +89,10 @@ pub record AreLanesOfCore (c : Core) (row : List LaneSeen) : Type 0 where
   pub here : (r : ℕ) (lane : LaneSeen) → slice_get row r ≡ Some lane → IsHere c r lane
   pub origin : (r : ℕ) (lane : LaneSeen) → slice_get row r ≡ Some lane → origin_of c.setup r ≡ Some lane.origin
 
+-- these entries by one stripe, and none by the others
+abbrev pub made_in : (stripe : ℕ) → List Entry → ℕ → List Entry
+made_in s es n = if n == s then es else []
+
 module _ {J : Type 0} where
   abbrev pub core_at : PagerSeen J → ℕ → Option Core
   core_at p s = core_in (slice_get p.stripes s)
@@ -139,46 +146,53 @@ module _ {J : Type 0} where
     pub stripes : length new.stripes ≡ length old.stripes
     pub setups : (s : ℕ) → setup_at new s ≡ setup_at old s
 
-  -- one stripe changed in this way, and the others are as they were
-  pub record OnStripe (s : ℕ) (Does : StripeSeen J → StripeSeen J → Type 0) (old new : PagerSeen J) : Type 0 where
-    pub before : StripeSeen J
-    pub after : StripeSeen J
-    pub was : slice_get old.stripes s ≡ Some before
-    pub is : new.stripes ≡ slice_set old.stripes s after
-    pub does : Does before after
-
-  -- the page's stripe loaded these bytes of it, and the others are as they were
-  abbrev pub LoadsPiece : (has_noted : J → History Entry → Type 0) → Key → (place : ℕ) → List ℕ → (old new : PagerSeen J) → Type 0
-  LoadsPiece has_noted k place bytes old new = OnStripe (stripe_at old k) (Loads has_noted k place bytes) old new
-
-  -- the page's stripe stored these bytes to it, and the others are as they were
-  abbrev pub StoresPiece : (has_noted : J → History Entry → Type 0) → Key → (place : ℕ) → List ℕ → (old new : PagerSeen J) → Type 0
-  StoresPiece has_noted k place bytes old new = OnStripe (stripe_at old k) (Stores has_noted k place bytes) old new
-
-  -- the page's stripe failed to load it, and the others are as they were
-  abbrev pub FailsToLoad : (has_noted : J → History Entry → Type 0) → Key → (old new : PagerSeen J) → PageFault → Type 0
-  FailsToLoad has_noted k old new f = OnStripe (stripe_at old k) (λ x y. LoadFails has_noted k x y f) old new
-
-  -- the page's stripe failed to store to it, and the others are as they were
-  abbrev pub FailsToStore : (has_noted : J → History Entry → Type 0) → Key → (old new : PagerSeen J) → PageFault → Type 0
-  FailsToStore has_noted k old new f = OnStripe (stripe_at old k) (λ x y. StoreFails has_noted k x y f) old new
-
   -- in each stripe these entries were made, the newest first
-  abbrev pub WentAll : (has_noted : J → History Entry → Type 0) → (made : ℕ → List Entry) → (old new : PagerSeen J) → Type 0
-  WentAll has_noted made old new = (s : ℕ) (x y : StripeSeen J) → slice_get old.stripes s ≡ Some x → slice_get new.stripes s ≡ Some y → Went has_noted (made s) x y
+  abbrev pub WentAll : (owner : ℕ) (has_noted : J → History Entry → Type 0) → (made : ℕ → List Entry) → (old new : PagerSeen J) → Type 0
+  WentAll owner has_noted made old new =
+      (s : ℕ) (x y : StripeSeen J) → slice_get old.stripes s ≡ Some x → slice_get new.stripes s ≡ Some y → Went owner has_noted (made s) x y
+
+  -- By entries of one stripe that all pass a test, and then this one.
+  pub record WentToIn (owner : ℕ) (has_noted : J → History Entry → Type 0) (s : ℕ) (passes : Entry → Bool) (last : Entry) (old new : PagerSeen J) : Type 0 where
+    pub before : List Entry
+    pub pass : list_all passes before ≡ true
+    pub went : WentAll owner has_noted (made_in s (last ∷ before)) old new
+
+  -- the page's stripe loaded these bytes of it
+  abbrev pub LoadsPiece : (owner : ℕ) (has_noted : J → History Entry → Type 0) → Key → (place : ℕ) → List ℕ → (old new : PagerSeen J) → Type 0
+  LoadsPiece owner has_noted k place bytes old new = WentToIn owner has_noted (stripe_at old k) (serves k is_read) (Load k place bytes) old new
+
+  -- the page's stripe stored these bytes to it
+  abbrev pub StoresPiece : (owner : ℕ) (has_noted : J → History Entry → Type 0) → Key → (place : ℕ) → List ℕ → (old new : PagerSeen J) → Type 0
+  StoresPiece owner has_noted k place bytes old new = WentToIn owner has_noted (stripe_at old k) (serves k is_for_store) (Save k place bytes) old new
+
+  -- the page's stripe failed at a read of the page itself, or at a write of a page that may have had to be written
+  abbrev pub PieceFails : (owner : ℕ) (has_noted : J → History Entry → Type 0) → Key → (reasons : Why → Bool) → (may_owe : Key → Bool) → (old new : PagerSeen J) → PageFault → Type 0
+  PieceFails owner has_noted k reasons may_owe old new f =
+      ((f.key ≡ k) × WentToIn owner has_noted (stripe_at old k) (serves k reasons) (ReadFailed f.key f.faults) old new)
+      ⊎ ((may_owe f.key ≡ true) × WentToIn owner has_noted (stripe_at old k) (serves k reasons) (WriteFailed f.key f.faults) old new)
+
+  -- so it failed to load the page
+  abbrev pub FailsToLoad : (owner : ℕ) (has_noted : J → History Entry → Type 0) → Key → (old new : PagerSeen J) → PageFault → Type 0
+  FailsToLoad owner has_noted k old new f = PieceFails owner has_noted k is_read (owes old) old new f
+
+  -- so it failed to store to it
+  abbrev pub FailsToStore : (owner : ℕ) (has_noted : J → History Entry → Type 0) → Key → (old new : PagerSeen J) → PageFault → Type 0
+  FailsToStore owner has_noted k old new f = PieceFails owner has_noted k is_for_store (λ j. owes old j || same j k) old new f
 
   -- what the stripes' journals were made with
   abbrev pub journals_made : {M : Type 0} → (J → M) → PagerSeen J → List M
   journals_made made_with p = map (λ (x : StripeSeen J). made_with x.journal) p.stripes
 
-  -- every stripe wrote its dirty pages, by writes for a flush alone, each page once: some write failed, or none did
-  pub record WroteDirty (has_noted : J → History Entry → Type 0) (failed : Bool) (old new : PagerSeen J) : Type 0 where
+  -- Every stripe wrote its dirty pages, by writes for a flush alone, each page once: some write failed, or none did. Only a
+  -- failed write leaves a page of its region dirty in its stripe.
+  pub record WroteDirty (owner : ℕ) (has_noted : J → History Entry → Type 0) (failed : Bool) (old new : PagerSeen J) : Type 0 where
     pub made : ℕ → List Entry  -- by the stripe's number
-    pub went : WentAll has_noted made old new
+    pub went : WentAll owner has_noted made old new
     pub pass : (s : ℕ) → list_all flushes (made s) ≡ true
     pub some : failed ≡ true → (s : ℕ) × (s < length old.stripes) × (list_any is_failed_write (made s) ≡ true)
     pub none : failed ≡ false → (s : ℕ) → list_any is_failed_write (made s) ≡ false
     pub once : (s : ℕ) (x : StripeSeen J) → slice_get old.stripes s ≡ Some x → TriesDirty x.core (made s)
+    pub clean : (s : ℕ) (y : StripeSeen J) → slice_get new.stripes s ≡ Some y → LeavesClean (made s) y.core
 
   -- each page holds what it held
   abbrev pub HoldsSame : (old new : PagerSeen J) → Type 0

@@ -1,5 +1,5 @@
 -- What writing all dirty pages makes a stripe do.
-use Rattle.std.specs.Prelude.{◌≡◌, ℕ, ◌<◌, ◌⊎◌, Bool, true, false, List, [], ◌∷◌}
+use Rattle.std.specs.Prelude.{◌≡◌, ℕ, ◌<◌, ◌⊎◌, ◌==◌, Bool, true, false, List, [], ◌∷◌}
 use Rattle.std.specs.Bool.{⊤}
 use Rattle.std.specs.List.{AllByRecursion, list_all, list_any}
 use Rattle.histories.specs.Histories.{History}
@@ -33,6 +33,11 @@ abbrev pub is_failed_write : Entry → Bool
 is_failed_write (WriteFailed k n) = true
 is_failed_write e = false
 
+-- the entry is a write of one of this region's pages that failed
+abbrev pub is_failed_write_of : (region : ℕ) → Entry → Bool
+is_failed_write_of r (WriteFailed k n) = k.region == r
+is_failed_write_of r e = false
+
 -- the pages that these entries begin to write, the newest first
 abbrev pub tries : List Entry → List Key
 tries [] = []
@@ -49,17 +54,22 @@ pub record TriesDirty (old : Core) (es : List Entry) : Type 0 where
   pub rising : Falls (tries es)
   pub each : (k : Key) → is_in k (tries es) ≡ is_dirty old k
 
+-- behind these entries a page is clean, unless a write of its region failed among them
+abbrev pub LeavesClean : List Entry → Core → Type 0
+LeavesClean es new = (k : Key) → list_any (is_failed_write_of k.region) es ≡ false → is_dirty new k ≡ false
+
 -- a stripe wrote its dirty pages: by writes for a flush alone, of which one failed or none did
-pub record WroteBack {J : Type 0} (has_noted : J → History Entry → Type 0) (failed : Bool) (old new : StripeSeen J) : Type 0 where
+pub record WroteBack {J : Type 0} (owner : ℕ) (has_noted : J → History Entry → Type 0) (failed : Bool) (old new : StripeSeen J) : Type 0 where
   pub entries : List Entry
   pub pass : list_all flushes entries ≡ true
   pub fails : list_any is_failed_write entries ≡ failed
-  pub went : Went has_noted entries old new
+  pub went : Went owner has_noted entries old new
 
--- and each dirty page once
-pub record WroteEach {J : Type 0} (has_noted : J → History Entry → Type 0) (failed : Bool) (old new : StripeSeen J) : Type 0 where
-  pub back : WroteBack has_noted failed old new
+-- and each dirty page once, so that only a failed write leaves a page of its region dirty
+pub record WroteEach {J : Type 0} (owner : ℕ) (has_noted : J → History Entry → Type 0) (failed : Bool) (old new : StripeSeen J) : Type 0 where
+  pub back : WroteBack owner has_noted failed old new
   pub once : TriesDirty old.core back.entries
+  pub clean : LeavesClean back.entries new.core
 
 -- the region's lane counts more faults than before
 abbrev pub RoseAt : (old new : Core) → ℕ → Type 0

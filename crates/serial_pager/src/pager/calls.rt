@@ -24,7 +24,7 @@ fn write_stripes<S: Store, J: Journal>(
     requires each { MayFlushEach (length scratch.old) stripes.old.items }
     ensures count { length stripes.new.items ≡ length stripes.old.items }
     ensures flushed { FlushesEach stripes.old.items stripes.new.items }
-    ensures entries { FlushesAll J.has_noted result (length stripes.old.items) stripes.old.items stripes.new.items }
+    ensures entries { FlushesAll 0 J.has_noted result (length stripes.old.items) stripes.old.items stripes.new.items }
     ensures made { all_made J.made_with stripes.new.items ≡ all_made J.made_with stripes.old.items }
     ensures failed { result ≡ true → SomeRose stripes.old.items stripes.new.items }
     ensures stored { result ≡ false → AreStored stripes.new.items }
@@ -73,8 +73,8 @@ impl<S: Store, J: Journal> SerialPager<S, J> {
         ensures owes { (k : Key) → owes self.new k ≡ true → owes self.old k ≡ true }
 
         // the entries of the page's stripe, and the store's faults
-        ensures ok { OnOk result (LoadsPiece J.has_noted key place buf.new self.old self.new) }
-        ensures err { IfErr result (FailsToLoad J.has_noted key self.old self.new) }
+        ensures ok { OnOk result (LoadsPiece 0 J.has_noted key place buf.new self.old self.new) }
+        ensures err { IfErr result (FailsToLoad 0 J.has_noted key self.old self.new) }
         ensures fault { IfErr result (λ f. NamesFault key self.old self.new f) }
         ensures counts { CountsGrow self.old self.new }
     {
@@ -101,8 +101,8 @@ impl<S: Store, J: Journal> SerialPager<S, J> {
         ensures owes { (k : Key) → owes self.new k ≡ true → (owes self.old k ≡ true) ⊎ (k ≡ key) }
 
         // the entries of the page's stripe, and the store's faults
-        ensures ok { OnOk result (StoresPiece J.has_noted key place bytes.now self.old self.new) }
-        ensures err { IfErr result (FailsToStore J.has_noted key self.old self.new) }
+        ensures ok { OnOk result (StoresPiece 0 J.has_noted key place bytes.now self.old self.new) }
+        ensures err { IfErr result (FailsToStore 0 J.has_noted key self.old self.new) }
         ensures fault { IfErr result (λ f. NamesFault key self.old self.new f) }
         ensures counts { CountsGrow self.old self.new }
     {
@@ -122,7 +122,7 @@ impl<S: Store, J: Journal> SerialPager<S, J> {
         ensures within { IsWithin self.new }
         ensures held { HoldsSame self.old self.new }
         ensures owes { (k : Key) → owes self.new k ≡ true → owes self.old k ≡ true }
-        ensures entries { WroteDirty J.has_noted result self.old self.new }
+        ensures entries { WroteDirty 0 J.has_noted result self.old self.new }
         ensures counts { CountsGrow self.old self.new }
         ensures tried { ForEachLane self.old (IsTried self.old self.new) }
         ensures failed { result ≡ true → ForSomeLane self.old (RoseAt self.old self.new) }

@@ -48,8 +48,8 @@ impl<S: Store, J: Journal> SerialStripe<S, J> {
         ensures owes { (j : Key) → owes self.new.core j ≡ true → owes self.old.core j ≡ true }
 
         // the entries, and the store's faults
-        ensures ok { OnOk result (Loads J.has_noted key place buf.new self.old self.new) }
-        ensures err { IfErr result (LoadFails J.has_noted key self.old self.new) }
+        ensures ok { OnOk result (Loads 0 J.has_noted key place buf.new self.old self.new) }
+        ensures err { IfErr result (LoadFails 0 J.has_noted key self.old self.new) }
         ensures fault { IfErr result (λ f. NamesCount self.old.core self.new.core f) }
         ensures counts { CountsGrow self.old.core self.new.core }
     {
@@ -88,8 +88,8 @@ impl<S: Store, J: Journal> SerialStripe<S, J> {
         ensures owes { (j : Key) → owes self.new.core j ≡ true → owes_with self.old.core key j ≡ true }
 
         // the entries, and the store's faults
-        ensures ok { OnOk result (Stores J.has_noted key place bytes.now self.old self.new) }
-        ensures err { IfErr result (StoreFails J.has_noted key self.old self.new) }
+        ensures ok { OnOk result (Stores 0 J.has_noted key place bytes.now self.old self.new) }
+        ensures err { IfErr result (StoreFails 0 J.has_noted key self.old self.new) }
         ensures fault { IfErr result (λ f. NamesCount self.old.core self.new.core f) }
         ensures counts { CountsGrow self.old.core self.new.core }
     {
@@ -112,12 +112,12 @@ impl<S: Store, J: Journal> SerialStripe<S, J> {
         ensures made { J.made_with self.new.journal ≡ J.made_with self.old.journal }
         ensures step { result ≡ true → self.new.core ≡ step.load self.old.core }
         ensures bytes { result ≡ true → GivesBytes self.old.core key place buf.new }
-        ensures went { result ≡ true → Went J.has_noted (entry.Load key place buf.new ∷ []) self.old self.new }
+        ensures went { result ≡ true → Went 0 J.has_noted (entry.Load key place buf.new ∷ []) self.old self.new }
         ensures untouched { result ≡ false → buf.new ≡ buf.old }
         ensures raises { result ≡ false → Raises key Why.Read self.old.core self.new.core }
         ensures missed { result ≡ false → is_present self.new.core key ≡ false }
         ensures waits { result ≡ false → 0 < length self.new.core.queue }
-        ensures before { result ≡ false → WentBy J.has_noted (serves key is_read) self.old self.new }
+        ensures before { result ≡ false → WentBy 0 J.has_noted (serves key is_read) self.old self.new }
     {
         match self.stripe.load(key, place, buf) {
             Look::Hit => {
@@ -149,11 +149,11 @@ impl<S: Store, J: Journal> SerialStripe<S, J> {
         ensures made { J.made_with self.new.journal ≡ J.made_with self.old.journal }
         ensures step { result ≡ true → self.new.core ≡ step.save self.old.core key place bytes.now }
         ensures hit { result ≡ true → is_shut self.old.core key ≡ false }
-        ensures went { result ≡ true → Went J.has_noted (entry.Save key place bytes.now ∷ []) self.old self.new }
+        ensures went { result ≡ true → Went 0 J.has_noted (entry.Save key place bytes.now ∷ []) self.old self.new }
         ensures raises { result ≡ false → Raises key (why_shut self.old.core key) self.old.core self.new.core }
         ensures missed { result ≡ false → is_shut self.new.core key ≡ true }
         ensures waits { result ≡ false → 0 < length self.new.core.queue }
-        ensures before { result ≡ false → WentBy J.has_noted (serves key is_for_store) self.old self.new }
+        ensures before { result ≡ false → WentBy 0 J.has_noted (serves key is_for_store) self.old self.new }
     {
         match self.stripe.save(key, place, bytes) {
             Look::Hit => {

@@ -33,7 +33,7 @@ impl<S: Store, J: Journal> SerialStripe<S, J> {
         ensures made { J.made_with self.new.journal ≡ J.made_with self.old.journal }
         ensures waits { 0 < length self.new.core.queue }
         ensures steps { Raises key why self.old.core self.new.core }
-        ensures went { WentRaising J.has_noted key why self.old self.new }
+        ensures went { WentRaising 0 J.has_noted key why self.old self.new }
     {
         model_laws();
         match self.stripe.raise(key, why) {
@@ -51,9 +51,9 @@ impl<S: Store, J: Journal> SerialStripe<S, J> {
         ensures rest { IsAtRest self.new.core }
         ensures made { J.made_with self.new.journal ≡ J.made_with self.old.journal }
         ensures steps { OnOk result (Serves key self.old.core self.new.core) }
-        ensures went { OnOk result (WentServing J.has_noted key self.old self.new) }
+        ensures went { OnOk result (WentServing 0 J.has_noted key self.old self.new) }
         ensures fault { IfErr result (λ f. Faults key self.old.core self.new.core f) }
-        ensures ends { IfErr result (ServiceFails J.has_noted key self.old self.new) }
+        ensures ends { IfErr result (ServiceFails 0 J.has_noted key self.old self.new) }
     {
         model_laws();
         match self.stripe.next() {
@@ -78,7 +78,7 @@ impl<S: Store, J: Journal> SerialStripe<S, J> {
         ensures rest { IsAtRest self.new.core }
         ensures made { J.made_with self.new.journal ≡ J.made_with self.old.journal }
         ensures steps { Drops self.old.core self.new.core }
-        ensures went { (k : Key) × Went J.has_noted (entry.Dropped k ∷ []) self.old self.new }
+        ensures went { (k : Key) × Went 0 J.has_noted (entry.Dropped k ∷ []) self.old self.new }
     {
         let key = self.stripe.drop_raise();
         self.journal.note(0, &Note::Dropped { key });
@@ -91,7 +91,7 @@ impl<S: Store, J: Journal> SerialStripe<S, J> {
         ensures rest { IsAtRest self.new.core }
         ensures made { J.made_with self.new.journal ≡ J.made_with self.old.journal }
         ensures steps { Opens self.old.core self.new.core }
-        ensures went { (k : Key) × Went J.has_noted (entry.Opened k ∷ []) self.old self.new }
+        ensures went { (k : Key) × Went 0 J.has_noted (entry.Opened k ∷ []) self.old self.new }
     {
         let key = self.stripe.open_page();
         self.journal.note(0, &Note::Opened { key });
@@ -106,9 +106,9 @@ impl<S: Store, J: Journal> SerialStripe<S, J> {
         ensures rest { IsAtRest self.new.core }
         ensures made { J.made_with self.new.journal ≡ J.made_with self.old.journal }
         ensures steps { OnOk result (Serves key self.old.core self.new.core) }
-        ensures went { OnOk result (WentServing J.has_noted key self.old self.new) }
+        ensures went { OnOk result (WentServing 0 J.has_noted key self.old self.new) }
         ensures fault { IfErr result (λ f. Faults key self.old.core self.new.core f) }
-        ensures ends { IfErr result (ServiceFails J.has_noted key self.old self.new) }
+        ensures ends { IfErr result (ServiceFails 0 J.has_noted key self.old self.new) }
     {
         match self.read_in(scratch) {
             Err(fault) if fault.key == key => Err(fault),
@@ -125,9 +125,9 @@ impl<S: Store, J: Journal> SerialStripe<S, J> {
         ensures rest { IsAtRest self.new.core }
         ensures made { J.made_with self.new.journal ≡ J.made_with self.old.journal }
         ensures steps { OnOk result (Fills self.old.core self.new.core) }
-        ensures went { OnOk result (ReadsIn J.has_noted self.old self.new) }
+        ensures went { OnOk result (ReadsIn 0 J.has_noted self.old self.new) }
         ensures fault { IfErr result (λ f. Misses self.old.core self.new.core f) }
-        ensures ends { IfErr result (FailsToReadIn J.has_noted self.old self.new) }
+        ensures ends { IfErr result (FailsToReadIn 0 J.has_noted self.old self.new) }
     {
         model_laws();
         let mut trip = self.stripe.start_read();
@@ -159,9 +159,9 @@ impl<S: Store, J: Journal> SerialStripe<S, J> {
         ensures rest { IsAtRest self.new.core }
         ensures made { J.made_with self.new.journal ≡ J.made_with self.old.journal }
         ensures steps { OnOk result (Cleans self.old.core self.new.core ⊎ Evicts self.old.core self.new.core) }
-        ensures went { OnOk result (WentServingAny J.has_noted self.old self.new) }
+        ensures went { OnOk result (WentServingAny 0 J.has_noted self.old self.new) }
         ensures fault { IfErr result (λ f. FailsToClean self.old.core self.new.core f) }
-        ensures ends { IfErr result (λ f. FailsToWriteOut J.has_noted f.key Pressure self.old self.new f) }
+        ensures ends { IfErr result (λ f. FailsToWriteOut 0 J.has_noted f.key Pressure self.old self.new f) }
     {
         model_laws();
         match self.stripe.pick() {
@@ -189,9 +189,9 @@ impl<S: Store, J: Journal> SerialStripe<S, J> {
         ensures rest { IsAtRest self.new.core }
         ensures made { J.made_with self.new.journal ≡ J.made_with self.old.journal }
         ensures steps { OnOk result (Writes key self.old.core self.new.core) }
-        ensures went { OnOk result (WritesOut J.has_noted key why self.old self.new) }
+        ensures went { OnOk result (WritesOut 0 J.has_noted key why self.old self.new) }
         ensures fault { IfErr result (λ f. FailsToWrite key self.old.core self.new.core f) }
-        ensures ends { IfErr result (FailsToWriteOut J.has_noted key why self.old self.new) }
+        ensures ends { IfErr result (FailsToWriteOut 0 J.has_noted key why self.old self.new) }
     {
         model_laws();
         let mut trip = self.stripe.start_write(key, why, scratch);
@@ -228,7 +228,7 @@ impl<S: Store, J: Journal> SerialStripe<S, J> {
         ensures rest { IsAtRest self.new.core }
         ensures made { J.made_with self.new.journal ≡ J.made_with self.old.journal }
         ensures step { self.new.core ≡ step.evict self.old.core key }
-        ensures went { Went J.has_noted (entry.Evicted key Pressure ∷ []) self.old self.new }
+        ensures went { Went 0 J.has_noted (entry.Evicted key Pressure ∷ []) self.old self.new }
     {
         let why = Cause::Pressure;
         self.stripe.evict(key, why);

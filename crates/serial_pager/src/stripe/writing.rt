@@ -27,7 +27,7 @@ impl<S: Store, J: Journal> SerialStripe<S, J> {
         ensures fixed { fixed_of J.made_with self.new ≡ fixed_of J.made_with self.old }
         ensures few { self.new.core.events ≤ self.old.core.events + 2 ^ 22 }
         ensures held { HoldsSame self.old.core self.new.core }
-        ensures entries { WroteEach J.has_noted result self.old self.new }
+        ensures entries { WroteEach 0 J.has_noted result self.old self.new }
         ensures owes { (k : Key) → owes self.new.core k ≡ true → owes self.old.core k ≡ true }
         ensures counts { CountsGrow self.old.core self.new.core }
         ensures tried { TriesEach self.old.core self.new.core }
@@ -56,7 +56,7 @@ impl<S: Store, J: Journal> SerialStripe<S, J> {
         ensures rest { IsAtRest self.new.core }
         ensures made { J.made_with self.new.journal ≡ J.made_with self.old.journal }
         ensures steps { Tries key result self.old.core self.new.core }
-        ensures went { TriesToWrite J.has_noted key result self.old self.new }
+        ensures went { TriesToWrite 0 J.has_noted key result self.old self.new }
     {
         model_laws();
         self.write_out(scratch, key, Cause::Flush).is_err()

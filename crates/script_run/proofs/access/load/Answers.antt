@@ -10,11 +10,13 @@ use Rattle.region_table.specs.Pieces.{pieces_of}
 use Rattle.page_base.specs.declared.keys.Piece.{Piece}
 use Rattle.store_trait.specs.Memory.{page_bytes}
 use Rattle.serial_pager.specs.Accesses.{is_read}
-use Rattle.serial_pager.specs.Holdings as one
-use Rattle.serial_pager.specs.Pagers.{IsPiece, held}
+use Rattle.serial_pager.specs.Pagers.{IsPiece, held, owes}
+use Rattle.workload_text.specs.Line.{load_line}
 use Rattle.script_run.specs.FitsSerial.{piece_key}
 use Rattle.page_model.specs.Pieces.{loads}
 use Rattle.script_run.specs.InsideRanges.{range_key, GoesBy}
+use Rattle.script_run.specs.LineEntries.{may_make}
+use Rattle.script_run.proofs.Allowed.{in_range, load_serves}
 use Rattle.script_run.proofs.Pieces.{length-put_mid}
 use Rattle.script_run.proofs.Accesses.{loaded_more}
 use Rattle.script_run.proofs.Makings.{by_none, by_access, by_failure, FailsBy}
@@ -30,7 +32,7 @@ loop-piece-init g c = record {
   held = λ k page. refl;
   owes = λ k e. e;
   front = λ bytes h. refl;
-  made = by_none g.J.Journal.has_noted c.args.pager.now;
+  made = by_none g.J.Journal.has_noted (may_make c.args.pager.now.page_size (load_line c.args.region c.args.off (length c.args.buf.now))) c.args.pager.now;
   journals = refl;
 }
 
@@ -104,6 +106,7 @@ loop-piece-preserved g c =
     let e = c.in-Ok.ensures in
     let long : length bytes_read ≡ piece.len = c.load.auto.buf ∙ part in
     let whole_buf : length (put_mid done (done + piece.len - done) buf bytes_read) ≡ length buf = length-put_mid buf bytes_read done (done + piece.len - done) (omega (arith, long)) (omega (arith, fits)) in
+    let its = in_range z c.args.region off len done piece next in
     let taken : take (done + piece.len) (put_mid done (done + piece.len - done) buf bytes_read) ≡ take done buf ++ bytes_read = take-put_mid done (done + piece.len - done) buf bytes_read (done + piece.len) (omega (arith, fits)) (omega (arith, long, fits)) in
     record {
       goes = goes_more done piece.len p now new i.goes (one_piece piece.len now new e.same e.spent e.counts next.at.some);
@@ -118,8 +121,8 @@ loop-piece-preserved g c =
           let same : bytes_read ≡ take piece.len (drop (piece.key.page * z + piece.place) bytes) = piece_is z piece.key.page piece.place piece.len bytes bytes_read (held now piece.key) there e.bytes long next.at.within (omega (arith, next.at.begins, fits, inside)) in
           loaded_more buf bytes_read bytes off done piece.len (piece.key.page * z + piece.place) fits inside long same next.at.begins (i.front bytes h) (done + piece.len - done) (done + piece.len) (omega arith) refl;
       made =
-          subst (λ es. GoesBy g.J.Journal.has_noted es [] p new) (sym (ap (loads (front ++ piece ∷ [])) taken ∙ c.accesses_by_piece.ensures.own (λ k place its. Load k place its) front piece (take done buf) bytes_read (omega (arith, i.bytes, length-take done buf, fits)) long))
-          (by_access g.J.Journal.has_noted (loads front (take done buf)) p now new piece.key is_read (Load piece.key piece.place bytes_read) i.goes.same i.made e.ok refl refl refl);
+          subst (λ es. GoesBy g.J.Journal.has_noted (may_make z (load_line c.args.region off len)) es [] p new) (sym (ap (loads (front ++ piece ∷ [])) taken ∙ c.accesses_by_piece.ensures.own (λ k place its. Load k place its) front piece (take done buf) bytes_read (omega (arith, i.bytes, length-take done buf, fits)) long))
+          (by_access g.J.Journal.has_noted (may_make z (load_line c.args.region off len)) (loads front (take done buf)) p now new piece.key is_read (load_serves z c.args.region off len piece.key its) (Load piece.key piece.place bytes_read) i.goes.same i.made e.ok refl refl its);
       journals = e.made ∙ i.journals;
     }
 
@@ -166,7 +169,8 @@ returns-in-Err-clause-fault g c =
     let now = c.loop-piece.pager in
     let new = c.load.new.self in
     let ended : piece.key ≡ piece_key z c.args.region (off + done) = key_is z c.args.region off len done piece next ∙ ap (range_key c.args.region) (sym (page_is z c.args.region off len done piece next)) in
-    let fails : FailsBy g.J.Journal.has_noted (loads front (take done c.loop-piece.buf)) (piece_key z c.args.region (off + done)) f p new = by_failure g.J.Journal.has_noted (loads front (take done c.loop-piece.buf)) p now new piece.key (piece_key z c.args.region (off + done)) is_read (λ x. one.owes x.core) f i.goes.same ended i.made e.err e.fault.stripe in (
+    let its = in_range z c.args.region off len done piece next in
+    let fails : FailsBy g.J.Journal.has_noted (may_make z (load_line c.args.region off len)) (loads front (take done c.loop-piece.buf)) (piece_key z c.args.region (off + done)) f p new = by_failure g.J.Journal.has_noted (may_make z (load_line c.args.region off len)) (loads front (take done c.loop-piece.buf)) p now new piece.key (piece_key z c.args.region (off + done)) is_read (load_serves z c.args.region off len piece.key its) (owes now) f i.goes.same ended i.made e.err e.fault.stripe in (
       done,
       faults_at p now new c.args.region off len done z piece (λ k. ⊥) f next i.goes (λ k h. inl (i.owes k h)) refl e.fault,
       take done c.loop-piece.buf,
@@ -198,5 +202,5 @@ returns-clause-made g c =
     let front = c.loop-piece.yielded in
     let pieces : pieces_of z c.args.region c.args.off len ≡ front ++ [] = i.pieces ∙ ap (λ ps. front ++ ps) c.in-None.ensures.steps.0 in
     let all : c.loop-piece.done ≡ len = c.pieces_follow.ensures.all z c.args.region c.args.off len c.loop-piece.done c.requires.listed.some (all_bytes z c.args.region c.args.off len c.loop-piece.done front pieces i.bytes) in
-    subst (λ ps. GoesBy g.J.Journal.has_noted (loads ps c.loop-piece.buf) [] c.args.pager.now c.loop-piece.pager) (sym (pieces ∙ append-nil front))
-    (subst (λ xs. GoesBy g.J.Journal.has_noted (loads front xs) [] c.args.pager.now c.loop-piece.pager) (take_all c.loop-piece.done c.loop-piece.buf (omega (arith, all, c.loop-piece.auto.buf))) i.made)
+    subst (λ ps. GoesBy g.J.Journal.has_noted (may_make z (load_line c.args.region c.args.off len)) (loads ps c.loop-piece.buf) [] c.args.pager.now c.loop-piece.pager) (sym (pieces ∙ append-nil front))
+    (subst (λ xs. GoesBy g.J.Journal.has_noted (may_make z (load_line c.args.region c.args.off len)) (loads front xs) [] c.args.pager.now c.loop-piece.pager) (take_all c.loop-piece.done c.loop-piece.buf (omega (arith, all, c.loop-piece.auto.buf))) i.made)

@@ -1,8 +1,9 @@
-use Rattle.std.proofs.Common.{◌≡◌, inl, inr, ◌+◌, ◌*◌, ◌-◌, ◌<◌, ◌≤◌, [], ◌∷◌, ◌++◌, length, slice_get, take, drop, refl, sym, ap, subst, ◌∙◌, arith, length-take, length-drop, append_assoc, append-nil}
+use Rattle.std.proofs.Common.{◌≡◌, inl, inr, ◌+◌, ◌*◌, ◌-◌, ◌<◌, ◌≤◌, ◌||◌, [], ◌∷◌, ◌++◌, length, slice_get, take, drop, refl, sym, ap, subst, ◌∙◌, arith, length-take, length-drop, append_assoc, append-nil}
 use Rattle.std.specs.Option.{option_map}
 use Rattle.std.proofs.lemmas.List.{take_all}
 use Rattle.std.proofs.lemmas.List.Sums.{sum_by-append, sum_by-cons}
 use Rattle.page_base.specs.ListSeen.{spliced}
+use Rattle.page_base.specs.Pages.{same}
 use Rattle.page_base.specs.declared.keys.Key.{Key}
 use Rattle.page_model.specs.declared.entry.Entry.TheVariants.{Save}
 use Rattle.region_table.specs.Covers.{IsNext}
@@ -10,12 +11,13 @@ use Rattle.region_table.specs.Cuts.{rest_of}
 use Rattle.region_table.specs.Pieces.{pieces_of}
 use Rattle.page_base.specs.declared.keys.Piece.{Piece}
 use Rattle.workload_text.specs.Line.{store_line}
-use Rattle.serial_pager.specs.Holdings as one
 use Rattle.serial_pager.specs.Holdings.{is_for_store}
-use Rattle.serial_pager.specs.Pagers.{IsPiece, may_store, held}
+use Rattle.serial_pager.specs.Pagers.{IsPiece, may_store, held, owes}
 use Rattle.script_run.specs.FitsSerial.{StoresTo, piece_key}
 use Rattle.page_model.specs.Pieces.{saves}
 use Rattle.script_run.specs.InsideRanges.{range_key, HoldsRegion, GoesBy}
+use Rattle.script_run.specs.LineEntries.{may_make}
+use Rattle.script_run.proofs.Allowed.{in_range, store_serves}
 use Rattle.script_run.proofs.Accesses.{spliced-spliced}
 use Rattle.script_run.proofs.Makings.{by_none, by_access, by_failure, FailsBy}
 use Rattle.script_run.proofs.Ranged.{all_bytes, goes_none, goes_more, goes_within, one_piece, same_page, key_is, page_is, page_below, is_piece, faults_at, region_stored, region_kept, spliced_none, stores_to, same_pages}
@@ -30,7 +32,7 @@ loop-piece-init g c = record {
   others = λ k page other. refl;
   owes = λ k e. inl e;
   front = λ b h. subst (λ xs. HoldsRegion c.args.pager.now c.args.region xs) (sym (spliced_none b c.args.off)) h;
-  made = by_none g.J.Journal.has_noted c.args.pager.now;
+  made = by_none g.J.Journal.has_noted (may_make c.args.pager.now.page_size (store_line c.args.region c.args.off c.args.bytes.now)) c.args.pager.now;
   journals = refl;
 }
 
@@ -122,6 +124,7 @@ loop-piece-preserved g c =
     let stored = take (done + piece.len - done) (drop done bytes) in
     let short : done < len = omega (arith, next.at.some, next.short) in
     let count : done + piece.len - done ≡ piece.len = omega arith in
+    let its = in_range z c.args.region off len done piece next in
     record {
       goes = goes_more done piece.len p now new i.goes (one_piece piece.len now new e.same e.spent e.counts next.at.some);
       within = next.short;
@@ -141,8 +144,8 @@ loop-piece-preserved g c =
           ap (λ j. spliced b' j stored) next.at.begins ∙ ap (λ m. spliced b' (off + done) (take m (drop done bytes))) count ∙ spliced-spliced b bytes off done piece.len inside next.short in
           subst (λ xs. HoldsRegion new c.args.region xs) exact step;
       made =
-          subst (λ es. GoesBy g.J.Journal.has_noted es [] p new) (ap (λ m. saves front bytes ++ Save piece.key piece.place (take m (drop done bytes)) ∷ []) count ∙ sym (c.accesses_by_piece.ensures.more (λ k place its. Save k place its) front piece bytes ∙ ap (λ m. saves front bytes ++ Save piece.key piece.place (take piece.len (drop m bytes)) ∷ []) i.bytes))
-          (by_access g.J.Journal.has_noted (saves front bytes) p now new piece.key is_for_store (Save piece.key piece.place stored) i.goes.same i.made e.ok refl refl refl);
+          subst (λ es. GoesBy g.J.Journal.has_noted (may_make z (store_line c.args.region off bytes)) es [] p new) (ap (λ m. saves front bytes ++ Save piece.key piece.place (take m (drop done bytes)) ∷ []) count ∙ sym (c.accesses_by_piece.ensures.more (λ k place its. Save k place its) front piece bytes ∙ ap (λ m. saves front bytes ++ Save piece.key piece.place (take piece.len (drop m bytes)) ∷ []) i.bytes))
+          (by_access g.J.Journal.has_noted (may_make z (store_line c.args.region off bytes)) (saves front bytes) p now new piece.key is_for_store (store_serves z c.args.region off bytes piece.key its) (Save piece.key piece.place stored) i.goes.same i.made e.ok refl refl its);
       journals = e.made ∙ i.journals;
     }
 
@@ -212,7 +215,8 @@ returns-in-Err-clause-fault g c =
     let now = c.loop-piece.pager in
     let new = c.store.new.self in
     let ended : piece.key ≡ piece_key z c.args.region (off + done) = key_is z c.args.region off len done piece next ∙ ap (range_key c.args.region) (sym (page_is z c.args.region off len done piece next)) in
-    let fails : FailsBy g.J.Journal.has_noted (saves front bytes) (piece_key z c.args.region (off + done)) f p new = by_failure g.J.Journal.has_noted (saves front bytes) p now new piece.key (piece_key z c.args.region (off + done)) is_for_store (λ x. one.owes_with x.core piece.key) f i.goes.same ended i.made e.err e.fault.stripe in (
+    let its = in_range z c.args.region off len done piece next in
+    let fails : FailsBy g.J.Journal.has_noted (may_make z (store_line c.args.region off bytes)) (saves front bytes) (piece_key z c.args.region (off + done)) f p new = by_failure g.J.Journal.has_noted (may_make z (store_line c.args.region off bytes)) (saves front bytes) p now new piece.key (piece_key z c.args.region (off + done)) is_for_store (store_serves z c.args.region off bytes piece.key its) (λ j. owes now j || same j piece.key) f i.goes.same ended i.made e.err e.fault.stripe in (
       done,
       faults_at p now new c.args.region off len done z piece (λ k. StoresTo z k (store_line c.args.region off bytes)) f next i.goes i.owes refl e.fault,
       (λ b h. region_kept now new c.args.region (spliced b off (take done bytes)) e.same e.untouched (i.front b h)),
@@ -243,4 +247,4 @@ returns-clause-made g c =
     let len = length c.args.bytes.now in
     let front = c.loop-piece.yielded in
     let pieces : pieces_of z c.args.region c.args.off len ≡ front ++ [] = i.pieces ∙ ap (λ ps. front ++ ps) c.in-None.ensures.steps.0 in
-    subst (λ ps. GoesBy g.J.Journal.has_noted (saves ps c.args.bytes.now) [] c.args.pager.now c.loop-piece.pager) (sym (pieces ∙ append-nil front)) i.made
+    subst (λ ps. GoesBy g.J.Journal.has_noted (may_make z (store_line c.args.region c.args.off c.args.bytes.now)) (saves ps c.args.bytes.now) [] c.args.pager.now c.loop-piece.pager) (sym (pieces ∙ append-nil front)) i.made

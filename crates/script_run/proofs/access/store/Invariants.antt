@@ -8,6 +8,7 @@ use Rattle.serial_pager.specs.Pagers.{has_key, held, owes, journals_made}
 use Rattle.script_run.specs.FitsSerial.{StoresTo}
 use Rattle.page_model.specs.Pieces.{saves, bytes_in}
 use Rattle.script_run.specs.InsideRanges.{HoldsRegion, RangeGoesOn, GoesBy}
+use Rattle.script_run.specs.LineEntries.{may_make}
 use Rattle.script_run.proofs.access.store.Given as goal
 
 abbrev pub invariant-loop-piece : goal.invariant-loop-piece
@@ -19,6 +20,6 @@ invariant-loop-piece g l = record {
   others : (k : Key) → has_key l.initial.pager k ≡ true → (k.region ≡ l.region → ⊥) → held l.pager k ≡ held l.initial.pager k;
   owes : (k : Key) → owes l.pager k ≡ true → (owes l.initial.pager k ≡ true) ⊎ StoresTo l.initial.pager.page_size k (store_line l.region l.off l.bytes);
   front : (b : List ℕ) → HoldsRegion l.initial.pager l.region b → HoldsRegion l.pager l.region (spliced b l.off (take l.done l.bytes));
-  made : GoesBy g.J.Journal.has_noted (saves l.yielded l.bytes) [] l.initial.pager l.pager;
+  made : GoesBy g.J.Journal.has_noted (may_make l.initial.pager.page_size (store_line l.region l.off l.bytes)) (saves l.yielded l.bytes) [] l.initial.pager l.pager;
   journals : journals_made g.J.Journal.made_with l.pager ≡ journals_made g.J.Journal.made_with l.initial.pager;
 }

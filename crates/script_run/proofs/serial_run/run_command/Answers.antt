@@ -8,6 +8,7 @@ use Rattle.script_run.specs.FitsSerial.{Spread, piece_key}
 use Rattle.page_model.specs.Pieces.{loads}
 use Rattle.script_run.specs.InsideRunning.{MayRun, Ran}
 use Rattle.script_run.specs.InsideRanges.{IsRange, RangeGoesOn, FaultsAt, GoesBy, BreaksOff}
+use Rattle.script_run.specs.LineEntries.{may_make}
 use Rattle.script_run.proofs.Tabled.{is_listed}
 use Rattle.script_run.proofs.RanOne.{range_is, writable_is, fault_known, ran_load, ran_load_fault, ran_store, ran_store_fault}
 use Rattle.script_run.proofs.serial_run.run_command.Goals as goal
@@ -103,7 +104,7 @@ returns-in-Ok-clause-ran g c =
     rw a.is (λ (t : Spread) (before : List Line) shaped.
     ran_load t gs p shaped g.J.Journal.has_noted before a.region a.off c.args.replies.now c.load-in-Ok.new.self c.load.new.pager fit.known a.len c.load.new.buf (c.load.auto.buf ∙ part) fit.short (subst (λ n. RangeGoesOn n p c.load.new.pager) part c.load.ensures.goes) c.load.ensures.held c.load.ensures.owes
     (λ b h. c.in-Ok.ensures.bytes b h ∙ ap (λ n. take n (drop a.off b)) part) o.text o.spare o.loaded o.sum o.faulted
-    (subst (λ n. GoesBy g.J.Journal.has_noted (loads (pieces_of p.page_size a.region a.off n) c.load.new.buf) [] p c.load.new.pager) part c.in-Ok.ensures.made))
+    (subst (λ n. GoesBy g.J.Journal.has_noted (may_make p.page_size (load_line a.region a.off n)) (loads (pieces_of p.page_size a.region a.off n) c.load.new.buf) [] p c.load.new.pager) part c.in-Ok.ensures.made))
 
 pub returns-in-Err-clause-ran : goal.returns-in-Err-clause-ran
 returns-in-Err-clause-ran g c =
@@ -119,7 +120,7 @@ returns-in-Err-clause-ran g c =
     rw a.is (λ (t : Spread) (before : List Line) shaped.
     ran_load_fault t gs p shaped g.J.Journal.has_noted before a.region a.off c.args.replies.now c.tell_fault.new.replies c.load.new.pager fit.known a.len f.0 c.in-Err.fault fit.short (subst (λ n. RangeGoesOn n p c.load.new.pager) part c.load.ensures.goes) c.load.ensures.held c.load.ensures.owes
     (subst (λ n. FaultsAt p c.load.new.pager a.region a.off n (λ k. ⊥) f.0 c.in-Err.fault) part f.1) o.text o.spare o.loaded o.sum o.faulted
-    f.2 f.3 (subst (λ n. BreaksOff g.J.Journal.has_noted (λ k place its. Load k place its) (pieces_of p.page_size a.region a.off n) f.2 (piece_key p.page_size a.region (a.off + f.0)) f.0 c.in-Err.fault p c.load.new.pager) part f.4))
+    f.2 f.3 (subst (λ n. BreaksOff g.J.Journal.has_noted (may_make p.page_size (load_line a.region a.off n)) (λ k place its. Load k place its) (pieces_of p.page_size a.region a.off n) f.2 (piece_key p.page_size a.region (a.off + f.0)) f.0 c.in-Err.fault p c.load.new.pager) part f.4))
 
 pub returns-in-Ok-store-clause-ran : goal.returns-in-Ok-store-clause-ran
 returns-in-Ok-store-clause-ran g c =

@@ -77,7 +77,7 @@ returns-clause-fits g c =
     let noted = c.put_journals.new.list.items in
     let journals = fits_journals g.J.Journal.has_noted set lines rows ends js c.requires.lanes c.requires.runnable.fit c.in-Ok.replies c.run_scripts.new.replies p q z opens ran w.same c.into_parts-lanes.ensures.lanes
     c.args.table c.requires.table c.requires.built c.requires.empty c.write_dirty-failed.result w.entries
-    noted (c.put_journals.ensures ∙ c.into_parts-lanes.ensures.journals) in
+    c.pages_show.ensures c.clean_is_kept.ensures noted (c.put_journals.ensures ∙ c.into_parts-lanes.ensures.journals) in
     let by_replies = subst (λ rs. FitsJournals g.J.Journal.has_noted set c.args.table lines rows ends rs c.write_dirty-failed.result noted) (sym run.1) journals in
     (run.0, subst (λ f. FitsJournals g.J.Journal.has_noted set c.args.table lines rows ends run.0.replies f noted) (sym run.2) by_replies)
 

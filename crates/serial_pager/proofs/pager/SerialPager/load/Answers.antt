@@ -2,14 +2,13 @@ use Rattle.std.proofs.Common.{◌≡◌, inl, inr, ◌+◌, length, IfSome, OnOk
 use Rattle.page_model.specs.declared.entry.Entry.TheVariants as entry
 use Rattle.serial_pager.specs.Seen.{StripeSeen}
 use Rattle.serial_pager.specs.Accesses.{is_read, serves, AccessFails}
-use Rattle.serial_pager.specs.Goings.{WentTo}
 use Rattle.serial_pager.specs.Holdings as stripe
 use Rattle.serial_pager.specs.Holdings.{is_for_store}
-use Rattle.serial_pager.specs.Pagers.{OnStripe}
+use Rattle.serial_pager.specs.Pagers.{PieceFails, WentToIn, owes}
 use Rattle.serial_pager.specs.Sound.{seen_of}
 use Rattle.serial_pager.proofs.Lists.{slice_set_length}
-use Rattle.serial_pager.proofs.Stripes.{stripe_of_pages, held_same, held_was, owes_same, counts_grow, journals_same}
-use Rattle.serial_pager.proofs.Pieces.{touched, piece_in_page, access_setup, sound_on, same_on, on_stripe, names_on, few_is, within_of, on_ok, if_err}
+use Rattle.serial_pager.proofs.Stripes.{stripe_of_pages, held_same, held_was, owes_same, owes_was, counts_grow, journals_same}
+use Rattle.serial_pager.proofs.Pieces.{touched, piece_in_page, access_setup, sound_on, same_on, went_in, piece_fails, names_on, few_is, within_of, on_ok, if_err}
 use Rattle.serial_pager.proofs.pager.SerialPager.load.Goals as goal
 
 pub load-requires-clause-rest : goal.load-requires-clause-rest
@@ -133,8 +132,9 @@ returns-clause-ok g c =
     let spent : q.spent ≡ p.spent + 1 = ap (λ v. v.spent + 1) c.self.view_is in
     let e = c.load.ensures in
     let setup : y.core.setup ≡ x.core.setup = access_setup g.J.Journal.has_noted c.args.key is_read c.load.result (entry.Load c.args.key c.args.place c.load.new.buf) (stripe.owes x.core) x y e.ok e.err in
-    let Does : StripeSeen _ → StripeSeen _ → Type 0 = WentTo g.J.Journal.has_noted (serves c.args.key is_read) (entry.Load c.args.key c.args.place c.load.new.buf) in
-    subst (λ n. OnOk c.load.result (OnStripe n Does p q)) c.stripe_of-stripe.ensures.stripe (on_ok _ _ c.load.result (on_stripe p q s x y t is shapes size setup Does) e.ok)
+    let made = entry.Load c.args.key c.args.place c.load.new.buf in
+    subst (λ n. OnOk c.load.result (WentToIn 0 g.J.Journal.has_noted n (serves c.args.key is_read) made p q)) c.stripe_of-stripe.ensures.stripe
+    (on_ok _ _ c.load.result (went_in g.J.Journal.has_noted p q s x y t is (serves c.args.key is_read) made) e.ok)
 
 pub returns-clause-err : goal.returns-clause-err
 returns-clause-err g c =
@@ -151,7 +151,8 @@ returns-clause-err g c =
     let spent : q.spent ≡ p.spent + 1 = ap (λ v. v.spent + 1) c.self.view_is in
     let e = c.load.ensures in
     let setup : y.core.setup ≡ x.core.setup = access_setup g.J.Journal.has_noted c.args.key is_read c.load.result (entry.Load c.args.key c.args.place c.load.new.buf) (stripe.owes x.core) x y e.ok e.err in
-    subst (λ n. IfErr c.load.result (λ f. OnStripe n (λ a b. AccessFails g.J.Journal.has_noted c.args.key is_read (stripe.owes a.core) a b f) p q)) c.stripe_of-stripe.ensures.stripe (if_err _ _ c.load.result (λ f. on_stripe p q s x y t is shapes size setup (λ a b. AccessFails g.J.Journal.has_noted c.args.key is_read (stripe.owes a.core) a b f)) e.err)
+    if_err (λ f. AccessFails 0 g.J.Journal.has_noted c.args.key is_read (stripe.owes x.core) x y f) (λ f. PieceFails 0 g.J.Journal.has_noted c.args.key is_read (owes p) p q f) c.load.result
+    (piece_fails g.J.Journal.has_noted c.args.key is_read p q s x y t is shapes c.stripe_of-stripe.ensures.stripe c.requires.piece.page (stripe.owes x.core) (owes p) (λ j at owed. owes_was p q s x y t.was is shapes j at ∙ owed)) e.err
 
 pub returns-clause-fault : goal.returns-clause-fault
 returns-clause-fault g c =

@@ -1,17 +1,17 @@
-use Rattle.std.proofs.Common.{◌≡◌, ◌+◌, length, OnOk, IfErr, slice_set, sym, ap, subst, ◌∙◌, arith}
+use Rattle.std.proofs.Common.{◌≡◌, ◌+◌, ◌||◌, length, OnOk, IfErr, slice_set, sym, ap, subst, ◌∙◌, arith}
 use Rattle.std.specs.Option.{option_map}
 use Rattle.page_base.specs.ListSeen.{spliced}
+use Rattle.page_base.specs.Pages.{same}
 use Rattle.page_model.specs.declared.entry.Entry.TheVariants as entry
 use Rattle.serial_pager.specs.Seen.{StripeSeen}
 use Rattle.serial_pager.specs.Accesses.{serves, AccessFails}
-use Rattle.serial_pager.specs.Goings.{WentTo}
 use Rattle.serial_pager.specs.Holdings as stripe
 use Rattle.serial_pager.specs.Holdings.{is_for_store}
-use Rattle.serial_pager.specs.Pagers.{OnStripe}
+use Rattle.serial_pager.specs.Pagers.{PieceFails, WentToIn, owes}
 use Rattle.serial_pager.specs.Sound.{seen_of}
 use Rattle.serial_pager.proofs.Lists.{slice_set_length}
-use Rattle.serial_pager.proofs.Stripes.{stripe_of_pages, writable_stripe, held_same, held_others, held_here, held_was, owes_same, counts_grow, journals_same}
-use Rattle.serial_pager.proofs.Pieces.{touched, piece_in_page, access_setup, sound_on, same_on, on_stripe, names_on, few_is, within_of, on_ok, on_err, if_err, with_owed}
+use Rattle.serial_pager.proofs.Stripes.{stripe_of_pages, writable_stripe, held_same, held_others, held_here, held_was, owes_same, owes_was, counts_grow, journals_same}
+use Rattle.serial_pager.proofs.Pieces.{touched, piece_in_page, access_setup, sound_on, same_on, went_in, piece_fails, names_on, few_is, within_of, on_ok, on_err, if_err, with_owed}
 use Rattle.serial_pager.proofs.pager.SerialPager.store.Goals as goal
 
 pub store-requires-clause-rest : goal.store-requires-clause-rest
@@ -144,8 +144,9 @@ returns-clause-ok g c =
     let spent : q.spent ≡ p.spent + 1 = ap (λ v. v.spent + 1) c.self.view_is in
     let e = c.store.ensures in
     let setup : y.core.setup ≡ x.core.setup = access_setup g.J.Journal.has_noted c.args.key is_for_store c.store.result (entry.Save c.args.key c.args.place c.args.bytes.now) (stripe.owes_with x.core c.args.key) x y e.ok e.err in
-    let Does : StripeSeen _ → StripeSeen _ → Type 0 = WentTo g.J.Journal.has_noted (serves c.args.key is_for_store) (entry.Save c.args.key c.args.place c.args.bytes.now) in
-    subst (λ n. OnOk c.store.result (OnStripe n Does p q)) c.stripe_of-stripe.ensures.stripe (on_ok _ _ c.store.result (on_stripe p q s x y t is shapes size setup Does) e.ok)
+    let made = entry.Save c.args.key c.args.place c.args.bytes.now in
+    subst (λ n. OnOk c.store.result (WentToIn 0 g.J.Journal.has_noted n (serves c.args.key is_for_store) made p q)) c.stripe_of-stripe.ensures.stripe
+    (on_ok _ _ c.store.result (went_in g.J.Journal.has_noted p q s x y t is (serves c.args.key is_for_store) made) e.ok)
 
 pub returns-clause-err : goal.returns-clause-err
 returns-clause-err g c =
@@ -162,7 +163,9 @@ returns-clause-err g c =
     let spent : q.spent ≡ p.spent + 1 = ap (λ v. v.spent + 1) c.self.view_is in
     let e = c.store.ensures in
     let setup : y.core.setup ≡ x.core.setup = access_setup g.J.Journal.has_noted c.args.key is_for_store c.store.result (entry.Save c.args.key c.args.place c.args.bytes.now) (stripe.owes_with x.core c.args.key) x y e.ok e.err in
-    subst (λ n. IfErr c.store.result (λ f. OnStripe n (λ a b. AccessFails g.J.Journal.has_noted c.args.key is_for_store (stripe.owes_with a.core c.args.key) a b f) p q)) c.stripe_of-stripe.ensures.stripe (if_err _ _ c.store.result (λ f. on_stripe p q s x y t is shapes size setup (λ a b. AccessFails g.J.Journal.has_noted c.args.key is_for_store (stripe.owes_with a.core c.args.key) a b f)) e.err)
+    if_err (λ f. AccessFails 0 g.J.Journal.has_noted c.args.key is_for_store (stripe.owes_with x.core c.args.key) x y f) (λ f. PieceFails 0 g.J.Journal.has_noted c.args.key is_for_store (λ j. owes p j || same j c.args.key) p q f) c.store.result
+    (piece_fails g.J.Journal.has_noted c.args.key is_for_store p q s x y t is shapes c.stripe_of-stripe.ensures.stripe c.requires.piece.page (stripe.owes_with x.core c.args.key) (λ j. owes p j || same j c.args.key)
+    (λ j at owed. ap (λ b. b || same j c.args.key) (owes_was p q s x y t.was is shapes j at) ∙ owed)) e.err
 
 pub returns-clause-fault : goal.returns-clause-fault
 returns-clause-fault g c =

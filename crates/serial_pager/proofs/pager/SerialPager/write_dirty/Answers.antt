@@ -92,6 +92,7 @@ returns-clause-entries g c =
       some = λ failed. let d = e.some failed in (d.0, subst (λ v. d.0 < length v.stripes) old d.1, d.2);
       none = e.none;
       once = λ s x was. let is = ap (λ v. slice_get v.stripes s) old ∙ was in e.once s x (slice_get_within c.self.inside.stripes.items s x is) is;
+      clean = λ s y is. e.clean s y (omega (arith, slice_get_within c.write_stripes.new.stripes.items s y is, c.write_stripes.ensures.count)) is;
     }
 
 pub returns-clause-made : goal.returns-clause-made

@@ -66,4 +66,5 @@ returns-clause-entries g c =
       some = e.some;
       none = e.none;
       once = λ s x below is. e.once s x (omega (arith, below, many, c.loop-stripe-test.false)) is;
+      clean = λ s y below is. e.clean s y (omega (arith, below, many, c.loop-stripe-test.false)) is;
     }

@@ -50,5 +50,5 @@ returns-in-Pending g c =
       made = ap (λ v. g.J.Journal.made_with v.journal) c.self.view_is;
       waits = subst (λ (x : Core). 0 < length x.queue) (sym core) (unraised_waits c.model_laws.ensures c.args.self.now.core c.args.key c.requires.rest c.requires.page answer);
       steps = inr (answer, core);
-      went = λ reasons ok. subst (λ v. WentBy g.J.Journal.has_noted (serves c.args.key reasons) c.args.self.now v) (sym new_is) (by_none g.J.Journal.has_noted (serves c.args.key reasons) c.args.self.now);
+      went = λ reasons ok. subst (λ v. WentBy 0 g.J.Journal.has_noted (serves c.args.key reasons) c.args.self.now v) (sym new_is) (by_none g.J.Journal.has_noted (serves c.args.key reasons) c.args.self.now);
     }

@@ -22,4 +22,4 @@ pub returns-in-Missing-clause-before : goal.returns-in-Missing-clause-before
 returns-in-Missing-clause-before g c = λ _.
     let still : c.load.new.self ≡ c.self.inside.stripe = c.in-Missing.ensures.same (λ e. cc) in
     let now = ap (λ (x : Core). seen g.J.Journal.has_noted x c.self.inside.journal) still ∙ c.self.view_is in
-    subst (λ v. WentBy g.J.Journal.has_noted (serves c.args.key is_read) v c.raise.new.self) now (c.raise.ensures.went is_read refl)
+    subst (λ v. WentBy 0 g.J.Journal.has_noted (serves c.args.key is_read) v c.raise.new.self) now (c.raise.ensures.went is_read refl)

@@ -11,5 +11,5 @@ returns-clause-steps g c =
 
 pub returns-clause-went : goal.returns-clause-went
 returns-clause-went g c =
-    subst (λ failed. TriesToWrite g.J.Journal.has_noted c.args.key failed c.args.self.now c.write_out.new.self) (sym c.is_err.ensures.value)
+    subst (λ failed. TriesToWrite 0 g.J.Journal.has_noted c.args.key failed c.args.self.now c.write_out.new.self) (sym c.is_err.ensures.value)
     (tries_entries g.J.Journal.has_noted c.args.key c.args.self.now c.write_out.new.self c.write_out.result c.write_out.ensures.went c.write_out.ensures.ends)
