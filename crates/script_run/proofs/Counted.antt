@@ -9,7 +9,8 @@ use Rattle.workload_text.specs.Grammar.{Region}
 use Rattle.workload_text.specs.Accepted.{AllFit, regions_of}
 use Rattle.script_run.specs.Contents.{contents_of}
 use Rattle.script_run.specs.Replies.{Reply, nothing, begun, loaded, ok, unmapped, fault, spent, is_fault_reply}
-use Rattle.script_run.specs.FitsSerial.{Spread, stripe_in, lane_at, region_is_told, counts_named, Rising, CountsFit, last_count, EndSeen, FitsSerial}
+use Rattle.flat_lines.specs.Spreads.{Spread, stripe_in}
+use Rattle.script_run.specs.FitsSerial.{lane_at, region_is_told, counts_named, Rising, CountsFit, last_count, EndSeen, FitsSerial}
 use Rattle.script_run.specs.Tellings.{FlagIsCounted}
 use Rattle.script_run.proofs.InMemory.{AllKnown, all_known, names_one}
 
@@ -28,7 +29,7 @@ first_named gs t [] some known faulted = absurd (cc)
 first_named gs t (fault k count done ∷ rest) some known faulted = record {
   s = stripe_in t k;
   r = k.region;
-  stripe = mod_below (k.region + k.page / 1) t.stripes some;
+  stripe = mod_below (k.region + k.page / t.group_of k.region) t.stripes some;
   region = known.0;
   count = count;
   more = counts_named t (stripe_in t k) k.region rest;

@@ -19,12 +19,13 @@ use Rattle.serial_pager.specs.Holdings.{told_by_place, told_by_region}
 use Rattle.serial_pager.specs.Pagers as pagers
 use Rattle.serial_pager.specs.Pagers.{PagerSeen, AreLanesOfCore, AreRowsOf, core_in, core_at, stripe_at, held, kept, kept_in, count_at, count_in, IsKept}
 use Rattle.workload_text.specs.Grammar.{Region}
-use Rattle.script_run.specs.Serial.{bytes_at}
+use Rattle.flat_lines.specs.FlatRegions.{bytes_at}
 use Rattle.script_run.specs.Contents.{joined, pages_in, page_told, origins_of, contents_of}
 use Rattle.script_run.specs.Fits.{FitLanes, page_counts}
 use Rattle.script_run.specs.FitsJournals.{setup_at}
 use Rattle.script_run.specs.FitsSerial.{spread_of, lane_at}
-use Rattle.script_run.specs.InsideRanges.{pages_at, range_key, HoldsRegion}
+use Rattle.flat_lines.specs.Spreads.{range_key}
+use Rattle.script_run.specs.InsideRanges.{pages_at, HoldsRegion}
 use Rattle.script_run.specs.InsideRunning.{IsShaped, shape_of}
 use Rattle.script_run.specs.declared.settings.Settings.{Settings}
 use Rattle.script_run.proofs.Contents.{joined-same, get_or-contents_by}

@@ -20,7 +20,8 @@ use Rattle.script_run.specs.Serial.{serial_text}
 use Rattle.script_run.specs.Contents.{no_lane, rows_in, pages_in, contents_of}
 use Rattle.script_run.specs.Fits.{FitLanes, share_of, page_counts}
 use Rattle.script_run.specs.Replies.{Reply, nothing, begun, loaded, ok, unmapped, fault, spent, is_fault_reply}
-use Rattle.script_run.specs.FitsSerial.{Spread, spread_of, stripe_in, lane_at, region_is_told, StoresTo, AnyStoresTo, MayAnswer, AllAnswer, left, fault_count_in, counts_named, Rising, CountsFit, last_count, EndSeen, FitsSerial}
+use Rattle.flat_lines.specs.Spreads.{Spread, stripe_in}
+use Rattle.script_run.specs.FitsSerial.{spread_of, lane_at, region_is_told, StoresTo, AnyStoresTo, MayAnswer, AllAnswer, left, fault_count_in, counts_named, Rising, CountsFit, last_count, EndSeen, FitsSerial}
 use Rattle.script_run.specs.FitsLaws.{AllTold}
 use Rattle.script_run.proofs.FittedLanes.{there, lane_there, row_len, lane_is, pages_fit, some_row}
 use Rattle.script_run.proofs.WithoutFaults.{without_faults}
@@ -87,7 +88,7 @@ names_one t k count done = ap (λ b. cond b (count ∷ []) []) (and_from (stripe
 none_named : (gs : List Region) (t : Spread) (replies : List Reply) → 0 < t.stripes → AllKnown gs replies → ((s r : ℕ) → s < t.stripes → r < length gs → counts_named t s r replies ≡ []) → list_any is_fault_reply replies ≡ false
 none_named gs t [] some known none = refl
 none_named gs t (fault k count done ∷ more) some known none =
-    let e : (count ∷ []) ++ counts_named t (stripe_in t k) k.region more ≡ [] = ap (λ ns. ns ++ counts_named t (stripe_in t k) k.region more) (sym (names_one t k count done)) ∙ none (stripe_in t k) k.region (mod_below (k.region + k.page / 1) t.stripes some) known.0 in
+    let e : (count ∷ []) ++ counts_named t (stripe_in t k) k.region more ≡ [] = ap (λ ns. ns ++ counts_named t (stripe_in t k) k.region more) (sym (names_one t k count done)) ∙ none (stripe_in t k) k.region (mod_below (k.region + k.page / t.group_of k.region) t.stripes some) known.0 in
     absurd (cc)
 none_named gs t (nothing ∷ more) some known none = none_named gs t more some known none
 none_named gs t (begun name ∷ more) some known none = none_named gs t more some known none

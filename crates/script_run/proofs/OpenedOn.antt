@@ -23,12 +23,13 @@ use Rattle.serial_pager.specs.Seen.{StripeSeen}
 use Rattle.serial_pager.specs.Pagers as pagers
 use Rattle.serial_pager.specs.Pagers.{PagerSeen, config_of, CanOpen, IsMade, IsOpened, core_in, core_at, stripe_at, count_at}
 use Rattle.workload_text.specs.Grammar.{Region, size_at}
-use Rattle.script_run.specs.Serial.{bytes_at}
+use Rattle.flat_lines.specs.FlatRegions.{bytes_at}
 use Rattle.script_run.specs.Contents.{no_lane, joined, pages_in, page_told, contents_of}
 use Rattle.script_run.specs.Fits.{FitLanes, page_counts, has_whole_pages}
 use Rattle.script_run.specs.FitsSerial.{spread_of, lane_at, region_is_told}
 use Rattle.script_run.specs.FitsJournals.{setup_at}
-use Rattle.script_run.specs.InsideRanges.{pages_at, range_key, HoldsRegion}
+use Rattle.flat_lines.specs.Spreads.{range_key}
+use Rattle.script_run.specs.InsideRanges.{pages_at, HoldsRegion}
 use Rattle.script_run.specs.InsideRunning.{IsShaped, Shows, OpensOn, shape_of}
 use Rattle.script_run.specs.declared.settings.Settings.{Settings}
 use Rattle.script_run.proofs.Contents.{AreWhole, length-joined, page_of-joined, length-contents_by, get_or-contents_by}
@@ -124,6 +125,7 @@ module _ (layout : Layout) (gs : List Region) (rows : List (List LaneSeen)) (fit
       some = omega (arith, layout.large_pages);
       page_size = size_is;
       stripes = opened.stripes ∙ ap (λ (l : Layout). l.stripes) same;
+      groups = λ q. refl;
       shapes = shapes_are;
       whole = λ r known. sym (sizes_whole layout.page_size gs pages r known) ∙ sym (ap (λ m. m * p.page_size) (pages_are r) ∙ ap (λ z. get_or (page_counts layout.page_size gs) r 0 * z) size_is);
       small = small;

@@ -14,7 +14,7 @@ use Rattle.workload_text.specs.Built.{is_built, is_built_line}
 use Rattle.workload_text.specs.View.{region_line}
 use Rattle.workload_text.specs.declared.workload.MapLine.{MapLine}
 use Rattle.script_run.specs.Replies.{nothing}
-use Rattle.script_run.specs.FitsSerial.{Spread}
+use Rattle.flat_lines.specs.Spreads.{Spread}
 use Rattle.script_run.specs.InsideRanges.{pages_at}
 use Rattle.script_run.specs.InsideRunning.{IsShaped, MayRun, behind, Ran}
 use Rattle.script_run.specs.declared.replies.Replies.{Replies}
@@ -40,6 +40,7 @@ module _ {J : Type 0} (t : Spread) (gs : List Region) where
     some = h.some;
     page_size = s.page_size ∙ h.page_size;
     stripes = s.stripes ∙ h.stripes;
+    groups = h.groups;
     shapes = s.shapes ∙ h.shapes;
     whole = λ r below. h.whole r below ∙ ap (λ n. n * p.page_size) (sym (same_pages p q s r)) ∙ ap (λ z. pages_at q r * z) (sym s.page_size);
     small = h.small;

@@ -12,12 +12,13 @@ use Rattle.workload_text.specs.Accepted.{loaded_bytes, command_count}
 use Rattle.script_run.specs.InsideRooms.{room, rooms}
 use Rattle.script_run.specs.Replies.{Reply, reply_text, replies_text, is_fault_reply, bytes_shown}
 use Rattle.script_run.specs.LineEntries.{Accesses, Failure, FaultsInStripe, Makes, AllMake, may_make}
-use Rattle.script_run.specs.FitsSerial.{Spread, stripe_in, MayAnswer, AllAnswer, left, left_by, fault_count_in, counts_named, Rising, last_count, CountsFit}
+use Rattle.script_run.specs.FitsSerial.{MayAnswer, AllAnswer, left, left_by, fault_count_in, counts_named, Rising, last_count, CountsFit}
 use Rattle.script_run.specs.InsideRanges.{RangeGoesOn}
 use Rattle.script_run.specs.InsideRunning.{Shows, behind, Ran}
 use Rattle.script_run.specs.declared.replies.Replies.{Replies}
 use Rattle.script_run.proofs.Makings.{all_none, all_more, order_none}
 use Rattle.script_run.proofs.Ranged.{same_more}
+use Rattle.flat_lines.specs.Spreads.{Spread, stripe_in}
 
 pub rooms-append : (gs : List Region) (xs ys : List Line) → rooms gs (xs ++ ys) ≡ rooms gs xs + rooms gs ys
 rooms-append gs [] ys = omega arith

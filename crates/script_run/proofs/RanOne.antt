@@ -16,10 +16,10 @@ use Rattle.region_table.specs.Pieces.{pieces_of}
 use Rattle.serial_pager.specs.Pagers.{PagerSeen, group_in, region_has_page, has_key, may_store, is_writable, stripe_at, held, owes, count_at, HoldsSame}
 use Rattle.workload_text.specs.Line.{Line, script_line, load_line, store_line}
 use Rattle.workload_text.specs.Grammar.{Region, size_at, writable_at}
-use Rattle.script_run.specs.Serial.{bytes_at, load_reply}
+use Rattle.script_run.specs.Serial.{load_reply}
 use Rattle.script_run.specs.InsideRooms.{fault_room}
 use Rattle.script_run.specs.Replies.{begun, loaded, ok, fault, reply_text}
-use Rattle.script_run.specs.FitsSerial.{Spread, stripe_in, StoresTo, Names, EndsAt, piece_key, fault_count_in, CountsFit}
+use Rattle.script_run.specs.FitsSerial.{StoresTo, Names, EndsAt, fault_count_in, CountsFit}
 use Rattle.script_run.specs.LineEntries.{Fails, MakesInOrder, may_make}
 use Rattle.page_model.specs.Pieces.{loads, saves, AreBefore}
 use Rattle.script_run.specs.InsideRanges.{IsRange, HoldsRegion, RangeGoesOn, FaultsAt, GoesBy, BreaksOff}
@@ -28,6 +28,8 @@ use Rattle.script_run.specs.declared.replies.Replies.{Replies}
 use Rattle.script_run.proofs.Ranged.{region_kept, region_kept_in, goes_none}
 use Rattle.script_run.proofs.Makings.{all_none, order_same}
 use Rattle.script_run.proofs.RanLines.{ran_one, makes_none}
+use Rattle.flat_lines.specs.FlatRegions.{bytes_at}
+use Rattle.flat_lines.specs.Spreads.{Spread, stripe_in, piece_key}
 
 -- ---- the shape of a pager
 
@@ -45,7 +47,7 @@ module _ {J : Type 0} (t : Spread) (gs : List Region) (p : PagerSeen J) (shaped 
   pub stripe_is : (k : Key) → stripe_at p k ≡ stripe_in t k
   stripe_is k =
       ap (λ n. stripe_of n (group_in (slice_get p.shapes k.region)) k.region k.page) shaped.stripes
-      ∙ ap (λ n. stripe_of t.stripes n k.region k.page) (ap (λ (ss : List RegionShape). group_in (slice_get ss k.region)) shaped.shapes ∙ one_group t.page_size gs k.region)
+      ∙ ap (λ n. stripe_of t.stripes n k.region k.page) (ap (λ (ss : List RegionShape). group_in (slice_get ss k.region)) shaped.shapes ∙ one_group t.page_size gs k.region ∙ sym (shaped.groups k.region))
 
   pub writable_is : (r : ℕ) → writable_at gs r ≡ true → is_writable p r ≡ true
   writable_is r e = ap (λ (ss : List RegionShape). may_store (slice_get ss r)) shaped.shapes ∙ stores_in t.page_size gs r e

@@ -21,8 +21,9 @@ use Rattle.store_trait.specs.Memory.{page_bytes}
 use Rattle.serial_pager.specs.declared.fault.PageFault.{PageFault}
 use Rattle.serial_pager.specs.Pagers.{PagerSeen, group_in, region_has_page, has_key, stripe_at, held, owes, count_at, IsPiece, IsSame, HoldsSame, CountsGrow, NamesFault}
 use Rattle.workload_text.specs.Line.{store_line}
-use Rattle.script_run.specs.FitsSerial.{piece_key, StoresTo}
-use Rattle.script_run.specs.InsideRanges.{pages_at, range_key, IsRange, HoldsRegion, RangeGoesOn, FaultsAt}
+use Rattle.flat_lines.specs.Spreads.{range_key, piece_key}
+use Rattle.script_run.specs.FitsSerial.{StoresTo}
+use Rattle.script_run.specs.InsideRanges.{pages_at, IsRange, HoldsRegion, RangeGoesOn, FaultsAt}
 use Rattle.script_run.proofs.Pieces.{take_of_page, length-spliced}
 use Rattle.script_run.proofs.Lists.{rows_apart}
 

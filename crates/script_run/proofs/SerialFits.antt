@@ -16,7 +16,7 @@ use Rattle.workload_text.specs.Grammar.{Region, writable_at}
 use Rattle.workload_text.specs.Accepted.{AllFit, IsRunnable, regions_of}
 use Rattle.workload_text.specs.Built.{is_built}
 use Rattle.script_run.specs.InsideRooms.{rooms}
-use Rattle.script_run.specs.Serial.{bytes_at, stored}
+use Rattle.flat_lines.specs.FlatRegions.{bytes_at, stored}
 use Rattle.script_run.specs.Contents.{contents_of, origins_of}
 use Rattle.script_run.specs.Fits.{FitLanes}
 use Rattle.script_run.specs.Replies.{Reply, nothing, begun, loaded, ok, unmapped, fault, spent, is_fault_reply, replies_text}

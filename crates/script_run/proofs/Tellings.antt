@@ -20,7 +20,7 @@ use Rattle.page_model.specs.Stands as stands
 use Rattle.page_model.specs.Stands.{HomeLane, PlaceStands}
 use Rattle.store_trait.specs.Memory.{page_bytes}
 use Rattle.workload_text.specs.Grammar.{Region, size_at}
-use Rattle.script_run.specs.Serial.{bytes_at}
+use Rattle.flat_lines.specs.FlatRegions.{bytes_at}
 use Rattle.script_run.specs.Contents.{no_lane, joined, pages_in, page_told, origins_of, contents_of}
 use Rattle.script_run.specs.Fits.{FitLanes, page_counts, share_of, shares_of, row_shares}
 use Rattle.script_run.specs.FitsJournals.{setup_at}

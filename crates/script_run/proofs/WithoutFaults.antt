@@ -5,10 +5,12 @@ use Rattle.std.proofs.lemmas.Bool.{or_parts}
 use Rattle.workload_text.specs.Line.{Line, map_line, script_line, load_line, store_line}
 use Rattle.workload_text.specs.Grammar.{Region}
 use Rattle.workload_text.specs.Accepted.{regions_of}
-use Rattle.script_run.specs.Serial.{bytes_at, reply, stored, load_reply, serial_text, serial_end}
+use Rattle.flat_lines.specs.FlatRegions.{bytes_at, stored}
+use Rattle.script_run.specs.Serial.{reply, load_reply, serial_text, serial_end}
 use Rattle.script_run.specs.Contents.{contents_of}
 use Rattle.script_run.specs.Replies.{Reply, nothing, begun, loaded, ok, fault, reply_text, replies_text, is_fault_reply}
-use Rattle.script_run.specs.FitsSerial.{Spread, MayAnswer, AllAnswer, left, left_by, region_is_told}
+use Rattle.flat_lines.specs.Spreads.{Spread}
+use Rattle.script_run.specs.FitsSerial.{MayAnswer, AllAnswer, left, left_by, region_is_told}
 use Rattle.script_run.specs.FitsLaws.{WithoutFaults}
 
 one : (gs : List Region) (t : Spread) (told : ℕ → Bool) (lines : List Line) (regions : List (List ℕ)) (l : Line) (a : Reply) → ((r : ℕ) → told r ≡ true) → MayAnswer t told lines regions l a → is_fault_reply a ≡ false → (reply_text gs a ≡ reply regions l) × (left regions l a ≡ stored regions l)

@@ -10,25 +10,26 @@ use Rattle.page_model.specs.declared.entry.Entry.TheVariants.{Written}
 use Rattle.page_model.specs.Bits.{is_dirty}
 use Rattle.region_table.specs.Regions.{TableSeen}
 use Rattle.serial_pager.specs.Writings.{is_failed_write_of}
-use Rattle.workload_text.specs.Line.{Line}
+use Rattle.workload_text.specs.Line.{Line, TextLine}
 use Rattle.page_base.specs.ListSeen.{ListSeen}
 use Rattle.page_base.specs.declared.layout.Layout.{Layout}
 use Rattle.store_trait.specs.declared.mem_lane.MemLane.{MemLane}
-use Rattle.workload_text.specs.Line.{TextLine}
 use Rattle.workload_text.specs.Grammar.{lines_in}
 use Rattle.workload_text.specs.Accepted.{AllFit, regions_of}
 use Rattle.workload_text.specs.Answers.{map_numbers}
 use Rattle.workload_text.specs.View.{region, lines_of}
 use Rattle.workload_text.specs.declared.workload.Workload.{Workload}
-use Rattle.script_run.specs.Serial.{bytes_at, serial_text, serial_end}
+use Rattle.script_run.specs.Serial.{serial_text, serial_end}
 use Rattle.script_run.specs.Contents.{contents_of, rows_in}
 use Rattle.script_run.specs.Fits.{FitLanes}
-use Rattle.script_run.specs.FitsSerial.{Spread, spread_of, region_is_told, EndSeen, FitsSerial}
+use Rattle.script_run.specs.FitsSerial.{spread_of, region_is_told, EndSeen, FitsSerial}
 use Rattle.script_run.specs.FitsJournals.{FitsJournals}
 use Rattle.script_run.specs.RegionRules.{named_region}
 use Rattle.script_run.specs.Replies.{Reply}
 use Rattle.script_run.specs.Tables.{regions_seen}
 use Rattle.script_run.specs.declared.settings.Settings.{Settings}
+use Rattle.flat_lines.specs.FlatRegions.{bytes_at}
+use Rattle.flat_lines.specs.Spreads.{Spread}
 
 -- the lanes tell every region
 abbrev pub AllTold : List (List LaneSeen) → Type 0

@@ -1,6 +1,6 @@
 -- What a serial run may answer and leave, where every call of a lane may fail: the serial meaning of `specs/Serial.antt`
 -- with faults allowed.
-use Rattle.std.specs.Prelude.{◌≡◌, ℕ, ◌+◌, ◌*◌, ◌/◌, ◌%◌, ◌-◌, ◌^◌, ◌<◌, ◌≤◌, ◌⊎◌, ◌&&◌, ◌||◌, ◌==◌, Bool, true, false, if◌then◌else◌, List, [], ◌∷◌, length, take, drop, is_some, slice_index_or, sum}
+use Rattle.std.specs.Prelude.{◌≡◌, ℕ, ◌+◌, ◌*◌, ◌%◌, ◌-◌, ◌^◌, ◌<◌, ◌≤◌, ◌⊎◌, ◌&&◌, ◌||◌, ◌==◌, Bool, true, false, if◌then◌else◌, List, [], ◌∷◌, length, take, drop, is_some, slice_index_or, sum}
 use Rattle.std.specs.List.{flat_map, list_any, list_all, range_with_len}
 use Rattle.page_base.specs.declared.keys.Key.{Key}
 use Rattle.page_base.specs.declared.layout.Layout.{Layout}
@@ -9,20 +9,14 @@ use Rattle.page_base.specs.Pages.{stripe_of}
 use Rattle.workload_text.specs.Line.{Line, map_line, script_line, load_line, store_line}
 use Rattle.workload_text.specs.Grammar.{writable_at}
 use Rattle.workload_text.specs.Accepted.{regions_of}
-use Rattle.script_run.specs.Serial.{bytes_at, stored}
+use Rattle.flat_lines.specs.Spreads.{Spread, stripe_in, piece_key}
+use Rattle.flat_lines.specs.FlatRegions.{bytes_at, stored}
 use Rattle.script_run.specs.Contents.{no_lane, pages_in, contents_of}
 use Rattle.script_run.specs.Replies.{Reply, nothing, begun, loaded, ok, fault, replies_text, is_fault_reply, bytes_shown}
 
--- how pages are spread: their size, and how many stripes they go round
-pub record Spread : Type 0 where
-  pub page_size : ℕ
-  pub stripes : ℕ
-
+-- pages go round one by one
 abbrev pub spread_of : Layout → Spread
-spread_of layout = record { page_size = layout.page_size; stripes = layout.stripes }
-
-abbrev pub stripe_in : Spread → Key → ℕ
-stripe_in t k = stripe_of t.stripes 1 k.region k.page
+spread_of layout = record { page_size = layout.page_size; stripes = layout.stripes; group_of = λ region. 1 }
 
 -- one stripe's lane of a region
 abbrev pub lane_at : List (List LaneSeen) → (stripe region : ℕ) → LaneSeen
@@ -49,9 +43,6 @@ AnyStoresTo page_size (l ∷ ls) k = StoresTo page_size k l ⊎ AnyStoresTo page
 pub record EndsAt (page_size off len done : ℕ) : Type 0 where
   pub short : done < len
   pub border : (done ≡ 0) ⊎ ((off + done) % page_size ≡ 0)
-
-abbrev pub piece_key : (page_size region at : ℕ) → Key
-piece_key page_size region at = record { region = region; page = at / page_size }
 
 -- the fault names the page of that piece, or one of the piece's stripe that these lines store to
 abbrev pub Names : Spread → List Line → (region at : ℕ) → Key → Type 0

@@ -10,16 +10,14 @@ use Rattle.region_table.specs.Regions.{TableSeen, lengths_of}
 use Rattle.store_trait.specs.Memory.{page_bytes}
 use Rattle.serial_pager.specs.declared.fault.PageFault.{PageFault}
 use Rattle.serial_pager.specs.Pagers.{PagerSeen, has_key, stripe_at, held, owes, count_at, IsSame, CountsGrow, WentAll}
-use Rattle.script_run.specs.FitsSerial.{StoresTo, EndsAt, piece_key}
+use Rattle.script_run.specs.FitsSerial.{StoresTo, EndsAt}
 use Rattle.script_run.specs.LineEntries.{Fails, MakesInOrder, may_make}
 use Rattle.page_base.specs.ListSeen.{spliced}
 use Rattle.page_model.specs.declared.entry.Entry.TheVariants.{Load, Save}
 use Rattle.page_model.specs.Pieces.{AreBefore, accesses_by, loads, saves}
 use Rattle.region_table.specs.Pieces.{pieces_of}
 use Rattle.workload_text.specs.Line.{load_line, store_line}
-
-abbrev pub range_key : (region page : ℕ) → Key
-range_key region page = record { region = region; page = page }
+use Rattle.flat_lines.specs.Spreads.{range_key, piece_key}
 
 module _ {J : Type 0} where
   abbrev pub pages_at : PagerSeen J → (region : ℕ) → ℕ

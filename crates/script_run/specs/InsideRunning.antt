@@ -20,13 +20,14 @@ use Rattle.workload_text.specs.declared.workload.Workload.{Workload}
 use Rattle.workload_text.specs.Grammar.{Region, size_at}
 use Rattle.workload_text.specs.Accepted.{AllFit, IsRunnable, regions_of, loaded_bytes, command_count}
 use Rattle.workload_text.specs.Built.{is_built}
-use Rattle.script_run.specs.Serial.{bytes_at}
+use Rattle.flat_lines.specs.FlatRegions.{bytes_at}
 use Rattle.script_run.specs.Contents.{contents_of}
 use Rattle.script_run.specs.Fits.{FitLanes, AreInRange}
 use Rattle.script_run.specs.Tables.{table_of}
 use Rattle.script_run.specs.InsideRooms.{rooms}
 use Rattle.script_run.specs.Replies.{Reply, replies_text, is_fault_reply, bytes_shown}
-use Rattle.script_run.specs.FitsSerial.{Spread, spread_of, region_is_told, lane_at, AnyStoresTo, AllAnswer, left_by, counts_named, CountsFit}
+use Rattle.flat_lines.specs.Spreads.{Spread}
+use Rattle.script_run.specs.FitsSerial.{spread_of, region_is_told, lane_at, AnyStoresTo, AllAnswer, left_by, counts_named, CountsFit}
 use Rattle.script_run.specs.FitsJournals.{setup_at}
 use Rattle.script_run.specs.LineEntries.{AllMake}
 use Rattle.script_run.specs.InsideRanges.{pages_at, HoldsRegion}
@@ -47,6 +48,7 @@ module _ {J : Type 0} where
     pub some : 0 < t.page_size
     pub page_size : p.page_size ≡ t.page_size
     pub stripes : length p.stripes ≡ t.stripes
+    pub groups : (r : ℕ) → t.group_of r ≡ 1
     pub shapes : p.shapes ≡ map (shape_of t.page_size) gs
     pub whole : (r : ℕ) → r < length gs → size_at gs r ≡ pages_at p r * p.page_size
     pub small : (r : ℕ) → size_at gs r ≤ MOST_STORED_BYTES

@@ -1,7 +1,8 @@
 -- All bytes that are loaded, in order.
 use Rattle.std.specs.Prelude.{ℕ, List, [], ◌∷◌, ◌++◌}
 use Rattle.workload_text.specs.Line.{Line}
-use Rattle.script_run.specs.Serial.{loaded, stored}
+use Rattle.flat_lines.specs.FlatRegions.{stored}
+use Rattle.script_run.specs.Serial.{loaded}
 
 -- all loaded bytes, in order
 abbrev pub serial_loads : List (List ℕ) → List Line → List ℕ

@@ -15,7 +15,7 @@ use Rattle.page_base.specs.declared.keys.Piece.{Piece}
 use Rattle.region_table.specs.Pieces.{pieces_of}
 use Rattle.workload_text.specs.Line.{Line, map_line, script_line, load_line, store_line, prefetch_line, flush_line, unmap_line}
 use Rattle.script_run.specs.Replies.{Reply, loaded, ok, fault}
-use Rattle.script_run.specs.FitsSerial.{Spread, stripe_in, piece_key}
+use Rattle.flat_lines.specs.Spreads.{Spread, stripe_in, piece_key}
 
 -- ---- accesses
 

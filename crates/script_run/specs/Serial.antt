@@ -1,14 +1,11 @@
 -- What a workload means when its lines run one after another: the text that they answer, and the bytes that
 -- they leave. The state is the bytes of every region, in order of region.
-use Rattle.std.specs.Prelude.{ℕ, List, [], ◌∷◌, ◌++◌, slice_index_or, slice_set, take, drop, map, replicate, codes}
+use Rattle.std.specs.Prelude.{ℕ, List, [], ◌∷◌, ◌++◌, take, drop, map, replicate, codes}
 use Rattle.hex.specs.Hex.{encode_lower}
-use Rattle.page_base.specs.ListSeen.{spliced}
 use Rattle.workload_text.specs.Grammar.{Region}
 use Rattle.workload_text.specs.Accepted.{regions_of}
 use Rattle.workload_text.specs.Line.{Line, map_line, script_line, load_line, store_line, prefetch_line, flush_line, unmap_line}
-
-abbrev pub bytes_at : List (List ℕ) → (region : ℕ) → List ℕ
-bytes_at regions region = slice_index_or regions region []
+use Rattle.flat_lines.specs.FlatRegions.{bytes_at, stored}
 
 -- regions in memory before anything runs
 abbrev pub zeros_of : List Line → List (List ℕ)
@@ -33,11 +30,6 @@ reply regions (store_line r off bytes) = codes "ok\n"
 reply regions (prefetch_line r off len) = codes "ok\n"
 reply regions flush_line = codes "ok\n"
 reply regions (unmap_line r) = codes "ok\n"
-
--- the regions behind a line
-abbrev pub stored : List (List ℕ) → Line → List (List ℕ)
-stored regions (store_line r off bytes) = slice_set regions r (spliced (bytes_at regions r) off bytes)
-stored regions l = regions
 
 abbrev pub serial_text : List (List ℕ) → List Line → List ℕ
 serial_text regions [] = []

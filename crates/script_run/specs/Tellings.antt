@@ -10,10 +10,11 @@ use Rattle.workload_text.specs.Grammar.{Region, size_at}
 use Rattle.workload_text.specs.Accepted.{AllFit, regions_of}
 use Rattle.workload_text.specs.View.{lines_of}
 use Rattle.workload_text.specs.declared.workload.Workload.{Workload}
-use Rattle.script_run.specs.Serial.{bytes_at}
+use Rattle.flat_lines.specs.FlatRegions.{bytes_at}
 use Rattle.script_run.specs.Contents.{contents_of}
 use Rattle.script_run.specs.Fits.{FitLanes}
-use Rattle.script_run.specs.FitsSerial.{Spread, spread_of, lane_at, region_is_told, EndSeen, FitsSerial}
+use Rattle.flat_lines.specs.Spreads.{Spread}
+use Rattle.script_run.specs.FitsSerial.{spread_of, lane_at, region_is_told, EndSeen, FitsSerial}
 use Rattle.script_run.specs.declared.settings.Settings.{Settings}
 use Rattle.script_run.specs.declared.serial_run.SerialEnd.{SerialEnd}
 

@@ -16,7 +16,8 @@ use Rattle.region_table.specs.Regions.{NamedRegion}
 use Rattle.workload_text.specs.Line.{Line}
 use Rattle.workload_text.specs.Grammar.{Region, size_at}
 use Rattle.workload_text.specs.Accepted.{AllFit, regions_of}
-use Rattle.script_run.specs.Serial.{bytes_at, serial_text, serial_end}
+use Rattle.flat_lines.specs.FlatRegions.{bytes_at}
+use Rattle.script_run.specs.Serial.{serial_text, serial_end}
 use Rattle.script_run.specs.Contents.{pages_in, origins_of, page_told, contents_of}
 use Rattle.script_run.specs.Fits.{FitLanes, has_whole_pages}
 use Rattle.script_run.specs.FitsLaws.{WithoutFaults, AllTold}

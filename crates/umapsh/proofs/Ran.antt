@@ -10,7 +10,8 @@ use Rattle.file_store.specs.Shelves.{File, Shelf, FolderSeen}
 use Rattle.region_table.specs.Regions.{NamedRegion}
 use Rattle.workload_text.specs.Line.{Line}
 use Rattle.workload_text.specs.Accepted.{regions_of}
-use Rattle.script_run.specs.Serial.{bytes_at, serial_text, serial_end}
+use Rattle.flat_lines.specs.FlatRegions.{bytes_at}
+use Rattle.script_run.specs.Serial.{serial_text, serial_end}
 use Rattle.script_run.specs.Contents.{origins_of, contents_of}
 use Rattle.script_run.specs.Fits.{FitLanes}
 use Rattle.script_run.specs.FitsLaws.{IsSerial}

@@ -7,9 +7,11 @@ use Rattle.file_store.specs.Parts.{WhereTold}
 use Rattle.file_store.specs.Shelves.{File, Shelf, FolderSeen, file_at}
 use Rattle.region_table.specs.Regions.{NamedRegion}
 use Rattle.workload_text.specs.Line.{Line}
-use Rattle.script_run.specs.Serial.{bytes_at, serial_text, serial_end}
+use Rattle.flat_lines.specs.FlatRegions.{bytes_at}
+use Rattle.script_run.specs.Serial.{serial_text, serial_end}
 use Rattle.script_run.specs.Contents.{contents_of}
-use Rattle.script_run.specs.FitsSerial.{Spread, FitsSerial}
+use Rattle.flat_lines.specs.Spreads.{Spread}
+use Rattle.script_run.specs.FitsSerial.{FitsSerial}
 use Rattle.script_run.specs.Tables.{regions_seen}
 use Rattle.region_lanes.specs.Closings.{is_at}
 use Rattle.region_lanes.specs.Regions.{AreOpened, first_bytes}
@@ -52,7 +54,7 @@ abbrev pub LeavesTold : List Line → (contents : List (List ℕ)) → (old new 
 LeavesTold lines contents old new = WhereTold (Leaves (regions_seen lines) contents) old.told new.told
 
 abbrev pub spread_by : SettingsSeen → Spread
-spread_by s = record { page_size = s.page_size; stripes = s.stripes }
+spread_by s = record { page_size = s.page_size; stripes = s.stripes; group_of = λ region. 1 }
 
 -- The lines ran over lanes that were opened over the folder's files, `rows` at first and `ends` in the end: the replies, whether
 -- one of them names a fault or a last write failed, and the files are what a serial run may answer and leave

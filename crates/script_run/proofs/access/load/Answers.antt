@@ -12,9 +12,8 @@ use Rattle.store_trait.specs.Memory.{page_bytes}
 use Rattle.serial_pager.specs.Accesses.{is_read}
 use Rattle.serial_pager.specs.Pagers.{IsPiece, held, owes}
 use Rattle.workload_text.specs.Line.{load_line}
-use Rattle.script_run.specs.FitsSerial.{piece_key}
 use Rattle.page_model.specs.Pieces.{loads}
-use Rattle.script_run.specs.InsideRanges.{range_key, GoesBy}
+use Rattle.script_run.specs.InsideRanges.{GoesBy}
 use Rattle.script_run.specs.LineEntries.{may_make}
 use Rattle.script_run.proofs.Allowed.{in_range, load_serves}
 use Rattle.script_run.proofs.Pieces.{length-put_mid}
@@ -22,6 +21,7 @@ use Rattle.script_run.proofs.Accesses.{loaded_more}
 use Rattle.script_run.proofs.Makings.{by_none, by_access, by_failure, FailsBy}
 use Rattle.script_run.proofs.Ranged.{all_bytes, goes_none, goes_more, goes_within, one_piece, held_more, key_is, page_is, page_below, has_piece, is_piece, faults_at, piece_is}
 use Rattle.script_run.proofs.access.load.Goals as goal
+use Rattle.flat_lines.specs.Spreads.{range_key, piece_key}
 
 pub loop-piece-init : goal.loop-piece-init
 loop-piece-init g c = record {

@@ -13,15 +13,16 @@ use Rattle.page_base.specs.declared.keys.Piece.{Piece}
 use Rattle.workload_text.specs.Line.{store_line}
 use Rattle.serial_pager.specs.Holdings.{is_for_store}
 use Rattle.serial_pager.specs.Pagers.{IsPiece, may_store, held, owes}
-use Rattle.script_run.specs.FitsSerial.{StoresTo, piece_key}
+use Rattle.script_run.specs.FitsSerial.{StoresTo}
 use Rattle.page_model.specs.Pieces.{saves}
-use Rattle.script_run.specs.InsideRanges.{range_key, HoldsRegion, GoesBy}
+use Rattle.script_run.specs.InsideRanges.{HoldsRegion, GoesBy}
 use Rattle.script_run.specs.LineEntries.{may_make}
 use Rattle.script_run.proofs.Allowed.{in_range, store_serves}
 use Rattle.script_run.proofs.Accesses.{spliced-spliced}
 use Rattle.script_run.proofs.Makings.{by_none, by_access, by_failure, FailsBy}
 use Rattle.script_run.proofs.Ranged.{all_bytes, goes_none, goes_more, goes_within, one_piece, same_page, key_is, page_is, page_below, is_piece, faults_at, region_stored, region_kept, spliced_none, stores_to, same_pages}
 use Rattle.script_run.proofs.access.store.Goals as goal
+use Rattle.flat_lines.specs.Spreads.{range_key, piece_key}
 
 pub loop-piece-init : goal.loop-piece-init
 loop-piece-init g c = record {

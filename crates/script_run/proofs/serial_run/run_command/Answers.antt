@@ -4,7 +4,7 @@ use Rattle.workload_text.specs.View.{lines_of}
 use Rattle.workload_text.specs.Accepted.{regions_of}
 use Rattle.page_model.specs.declared.entry.Entry.TheVariants.{Load}
 use Rattle.region_table.specs.Pieces.{pieces_of}
-use Rattle.script_run.specs.FitsSerial.{Spread, piece_key}
+use Rattle.flat_lines.specs.Spreads.{Spread, piece_key}
 use Rattle.page_model.specs.Pieces.{loads}
 use Rattle.script_run.specs.InsideRunning.{MayRun, Ran}
 use Rattle.script_run.specs.InsideRanges.{IsRange, RangeGoesOn, FaultsAt, GoesBy, BreaksOff}

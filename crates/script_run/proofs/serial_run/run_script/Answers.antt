@@ -6,7 +6,7 @@ use Rattle.workload_text.specs.Line.{Line, script_line}
 use Rattle.workload_text.specs.View.{lines_of, command_line}
 use Rattle.workload_text.specs.Accepted.{regions_of}
 use Rattle.workload_text.specs.declared.workload.Command.{Command}
-use Rattle.script_run.specs.FitsSerial.{Spread}
+use Rattle.flat_lines.specs.Spreads.{Spread}
 use Rattle.script_run.specs.InsideRunning.{MayRun, Ran, behind}
 use Rattle.script_run.proofs.RanItems.{may_item, ran_item, shaped_same}
 use Rattle.script_run.proofs.RanOne.{ran_script}

@@ -5,7 +5,7 @@ use Rattle.serial_pager.specs.Pagers.{journals_made}
 use Rattle.workload_text.specs.View.{lines_of, command_line}
 use Rattle.workload_text.specs.Accepted.{regions_of}
 use Rattle.workload_text.specs.declared.workload.Command.{Command}
-use Rattle.script_run.specs.FitsSerial.{Spread}
+use Rattle.flat_lines.specs.Spreads.{Spread}
 use Rattle.script_run.specs.InsideRunning.{IsShaped, Ran}
 use Rattle.script_run.proofs.serial_run.run_script.Given as goal
 

@@ -5,7 +5,7 @@ use Rattle.workload_text.specs.Line.{Line}
 use Rattle.workload_text.specs.View.{lines_of, region_line, script_lines}
 use Rattle.workload_text.specs.Accepted.{regions_of}
 use Rattle.workload_text.specs.declared.workload.Script.{Script}
-use Rattle.script_run.specs.FitsSerial.{Spread}
+use Rattle.flat_lines.specs.Spreads.{Spread}
 use Rattle.script_run.specs.InsideRunning.{MayRun, Ran, behind}
 use Rattle.script_run.proofs.RanItems.{may_item, ran_item, ran_maps, shaped_same}
 use Rattle.script_run.proofs.serial_run.run_scripts.Goals as goal

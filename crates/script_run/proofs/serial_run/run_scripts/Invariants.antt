@@ -3,7 +3,7 @@ use Rattle.std.specs.List.{flat_map}
 use Rattle.serial_pager.specs.Pagers.{journals_made}
 use Rattle.workload_text.specs.View.{lines_of, region_line, script_lines}
 use Rattle.workload_text.specs.Accepted.{regions_of}
-use Rattle.script_run.specs.FitsSerial.{Spread}
+use Rattle.flat_lines.specs.Spreads.{Spread}
 use Rattle.script_run.specs.InsideRunning.{IsShaped, Ran}
 use Rattle.script_run.proofs.serial_run.run_scripts.Given as goal
 
