@@ -26,3 +26,4 @@ pub mod Makings
 pub mod Allowed
 pub mod Tabled
 pub mod RegionRules
+pub mod DidLines

@@ -10,6 +10,7 @@ pub mod Replies
 pub mod FitsSerial
 pub mod LineEntries
 pub mod FitsJournals
+pub mod FlatJournals
 pub mod FitsLaws
 pub mod Tellings
 pub mod InsideRanges

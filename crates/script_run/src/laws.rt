@@ -1,9 +1,13 @@
-//! What follows from the meaning of a run, and from that of its regions. Each function does nothing: its contract is
-//! the law.
+//! What follows from the meaning of a run, from that of its regions, and from its journals. Each function does nothing but
+//! call the laws that it rests on: its contract is the law.
+ghost use Rattle.script_run.specs.FlatJournals.{JournalsAreFlat};
 ghost use Rattle.script_run.specs.FitsLaws.{WithoutFaults, MemoryRunsAreSerial, RegionsAreMaps, DirtyIsWritten};
 ghost use Rattle.script_run.specs.Tellings.{ToldIsHeld, FlagIsCounted};
 
-use page_model::Journal;
+use flat_lines::laws::owners_are_flat;
+use histories::laws::calls_of_one;
+use page_model::{Entry, Journal};
+use region_table::laws::pieces_cover;
 
 /// A run that isn't flagged answers the serial text and leaves the serial contents, where all is told.
 pub fn without_faults()
@@ -34,3 +38,12 @@ pub fn faults_are_counted()
 pub fn dirty_is_written<J: Journal>()
     ensures { DirtyIsWritten J.has_noted }
 {}
+
+/// What lines load and what they leave follows from the histories of the stripes.
+pub fn journals_are_flat()
+    ensures { JournalsAreFlat }
+{
+    pieces_cover();
+    calls_of_one::<Entry>();
+    owners_are_flat();
+}
