@@ -1,5 +1,5 @@
 -- What the lines of a serial run made, as what they did.
-use Rattle.std.proofs.Common.{◌≡◌, ◌⊎◌, inl, inr, ℕ, ◌+◌, ◌<◌, ◌≤◌, Bool, true, false, cond, List, [], ◌∷◌, ◌++◌, length, take, drop, reverse, filter, refl, sym, ap, ap₂, subst, ◌∙◌, arith, rules, append-nil}
+use Rattle.std.proofs.Common.{◌≡◌, ◌⊎◌, inl, inr, ℕ, ◌+◌, ◌≤◌, Bool, true, false, cond, List, [], ◌∷◌, ◌++◌, length, take, drop, reverse, filter, refl, sym, ap, ap₂, subst, ◌∙◌, arith, rules, append-nil}
 use Rattle.std.specs.List.{list_all}
 use Rattle.std.proofs.lemmas.Bool.{and_parts, and_from}
 use Rattle.std.proofs.lemmas.List.{places, same_lists, take_all, drop-take}
@@ -13,7 +13,7 @@ use Rattle.page_model.specs.declared.entry.Entry.TheVariants as entry
 use Rattle.page_model.specs.declared.entry.Entry.TheVariants.{Save, StartWrite, Written, WriteFailed}
 use Rattle.page_model.specs.Entries.{key_of, is_access, lies_in, of_stripe}
 use Rattle.page_model.specs.Owned.{is_owners, OneOwner, joined_accesses}
-use Rattle.page_model.specs.Pieces.{AreBefore, bytes_in, saves}
+use Rattle.page_model.specs.Pieces.{bytes_in, saves}
 use Rattle.region_table.specs.Covers.{PiecesCover}
 use Rattle.region_table.specs.Pieces.{pieces_of}
 use Rattle.serial_pager.specs.Writings.{flushes}
