@@ -1,6 +1,7 @@
 -- What the words and the variables of a call give: the settings of a run, or the first refusal.
-use Rattle.std.specs.Prelude.{◌≡◌, ℕ, ◌+◌, ◌-◌, ◌*◌, min, nat_lt, nat_le, if◌then◌else◌, List, [], ◌∷◌, codes, Option, Some, None, option_and_then, Result, Ok, Err}
+use Rattle.std.specs.Prelude.{◌≡◌, ℕ, ◌+◌, ◌-◌, ◌*◌, min, nat_lt, nat_le, true, false, if◌then◌else◌, List, [], ◌∷◌, codes, Option, Some, None, option_and_then, Result, Ok, Err}
 use Rattle.std.specs.Int.{is_power_of_two}
+use Rattle.std.specs.List.{list_any}
 use Rattle.std.specs.Str.{bytes_eq}
 use Rattle.page_base.specs.declared.limits.TheConstants.{LEAST_PAGE_SIZE, MOST_PAGE_SIZE, MOST_FRAMES, MOST_BUFFER_BYTES, MOST_STRIPES, MOST_FAULTS}
 use Rattle.script_run.specs.declared.settings.TheConstants.{DEFAULT_PAGE_SIZE, DEFAULT_STRIPES, DEFAULT_FRAMES, DEFAULT_FILLERS, DEFAULT_EVICTORS, DEFAULT_HIGH, DEFAULT_LOW, DEFAULT_AHEAD, DEFAULT_FAULTS}
@@ -17,7 +18,7 @@ use Rattle.call_words.specs.declared.fault.CallFault.{CallFault}
 use Rattle.call_words.specs.declared.fault.CallFault.TheVariants.{Refused, OutOfMemory}
 use Rattle.call_words.specs.declared.settings.Asked.{Asked}
 use Rattle.call_words.specs.declared.call.Call.{Call}
-use Rattle.call_words.specs.Uses.{Text, serial_names, takes_call, value_in}
+use Rattle.call_words.specs.Uses.{Text, serial_names, is_barred, takes_call, value_in}
 use Rattle.call_words.specs.Variables.{first_value_of}
 
 -- the settings of a run, as numbers
@@ -190,3 +191,14 @@ reads_of call = reads_call call.words.items call.vars.items
 abbrev pub RefusedBy : {A : Type 0} → Result A WordsFault → CallFault → Type 0
 RefusedBy reads (Refused fault) = reads ≡ Err fault
 RefusedBy reads OutOfMemory = Unit {0}
+
+-- want of memory may come only where the first word is `serial` and no word behind it is barred
+abbrev pub MayWantMemory : (words : List Text) → CallFault → Type 0
+MayWantMemory words (Refused fault) = Unit {0}
+MayWantMemory [] OutOfMemory = ⊥
+MayWantMemory (word ∷ words) OutOfMemory = (bytes_eq word (codes "serial") ≡ true) × (list_any is_barred words ≡ false)
+
+-- what is read of the system is no call: a word is no text, or there was no memory
+abbrev pub IsNoCall : CallFault → Type 0
+IsNoCall (Refused fault) = fault ≡ Words
+IsNoCall OutOfMemory = Unit {0}

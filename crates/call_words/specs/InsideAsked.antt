@@ -1,5 +1,6 @@
 -- What the parts of reading a call know of each other's answers.
 use Rattle.std.specs.Prelude.{◌≡◌, ℕ, ◌≤◌, Bool, true, false, List, IfSome, Option, None, option_map, Result, Ok, Err, MatchResult}
+use Rattle.std.specs.List.{list_any}
 use Rattle.page_base.specs.Layouts.{is_page_size}
 use Rattle.page_base.specs.declared.limits.TheConstants.{MOST_FRAMES, MOST_STRIPES, MOST_FAULTS}
 use Rattle.script_run.specs.declared.settings.Settings.{Settings}
@@ -14,7 +15,7 @@ use Rattle.call_words.specs.declared.fault.CallFault.{CallFault}
 use Rattle.call_words.specs.declared.fault.CallFault.TheVariants.{Refused, OutOfMemory}
 use Rattle.call_words.specs.declared.options.SerialOptions.{SerialOptions}
 use Rattle.call_words.specs.declared.settings.Asked.{Asked}
-use Rattle.call_words.specs.Uses.{Text, serial_names, takes_call, value_in}
+use Rattle.call_words.specs.Uses.{Text, serial_names, is_barred, takes_call, value_in}
 use Rattle.call_words.specs.Calls.{SettingsSeen, option_text, settings_seen}
 
 -- the texts of the options' values
@@ -34,6 +35,11 @@ pub record GivesOptions (words : List Text) (o : SerialOptions) : Type 0 where
 abbrev pub IsStopped : (takes : Bool) → CallFault → Type 0
 IsStopped takes (Refused fault) = (fault ≡ Words) × (takes ≡ false)
 IsStopped takes OutOfMemory = Unit {0}
+
+-- want of memory comes only where no word is barred
+abbrev pub WantsBehindTest : (words : List Text) → CallFault → Type 0
+WantsBehindTest words (Refused fault) = Unit {0}
+WantsBehindTest words OutOfMemory = list_any is_barred words ≡ false
 
 -- the ranges of options and settings
 abbrev pub option_in : OptionName → ℕ → Type 0

@@ -2,7 +2,7 @@
 ghost use Rattle.std.specs.Prelude.{◌≡◌, ◌-◌, ◌++◌, length, map, drop, string_bytes, Ok, IfOk, IfErr};
 ghost use Rattle.std.specs.Vec.Iter.{into_iter_items, into_iter_len};
 ghost use Rattle.script_run.specs.Fits.{AreInRange};
-ghost use Rattle.call_words.specs.Calls.{reads_of, settings_seen, RefusedBy};
+ghost use Rattle.call_words.specs.Calls.{reads_of, settings_seen, RefusedBy, MayWantMemory, IsNoCall};
 
 use crate::fault::{CallFault, SettingName, WordsFault};
 use crate::options::serial_options;
@@ -23,11 +23,12 @@ pub struct Call {
 }
 
 /// The settings that a call gives, or its first refusal: the words, the options in their order, the settings in theirs, and the
-/// rules that join them. `OutOfMemory` may come where its words are read, and has no other cause.
+/// rules that join them. `OutOfMemory` may come where the words behind `serial` are read, and has no other cause.
 pub fn settings_of_call(alloc: Global, call: &Call) -> Result<Settings, CallFault>
     ensures settings { IfOk result (λ s. reads_of call.now ≡ Ok (settings_seen s)) }
     ensures ranges { IfOk result AreInRange }
     ensures refused { IfErr result (RefusedBy (reads_of call.now)) }
+    ensures memory { IfErr result (MayWantMemory call.now.words.items) }
 {
     let words = call.words.as_slice();
     if words.is_empty() {
@@ -89,7 +90,12 @@ fn setting_vars<R: Env + AllocGlobal>(rt: &R) -> Result<Texts, OutOfMemory> {
 
 /// What the program was called with; of the environment the variables of the settings alone. Where memory runs out there is no
 /// call, whatever was read before. A word that is no text is refused; a variable that is none is handed over as empty.
-pub fn read_call<R: Env + AllocGlobal>(rt: &R) -> Result<Call, CallFault> {
+///
+/// Which words and values these are no clause can name: std's calls that read them of the system promise nothing of what they
+/// read.
+pub fn read_call<R: Env + AllocGlobal>(rt: &R) -> Result<Call, CallFault>
+    ensures only { IfErr result IsNoCall }
+{
     let args = match env::args(rt) {
         Ok(args) => args,
         Err(fault) => {

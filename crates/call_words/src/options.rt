@@ -3,7 +3,7 @@ ghost use Rattle.std.specs.Prelude.{◌≡◌, ◌⊎◌, true, false, map, stri
 ghost use Rattle.std.specs.List.{list_any};
 ghost use Rattle.call_words.specs.Uses.{is_barred, takes_words, takes_call, serial_names, value_in};
 ghost use Rattle.call_words.specs.Calls.{option_text};
-ghost use Rattle.call_words.specs.InsideAsked.{GivesOptions, IsStopped};
+ghost use Rattle.call_words.specs.InsideAsked.{GivesOptions, IsStopped, WantsBehindTest};
 ghost use Rattle.clap.specs.Words.{first_value, found_of, kind_of};
 
 use crate::fault::{CallFault, OptionName, WordsFault};
@@ -70,6 +70,7 @@ pub fn serial_options<'a>(
 ) -> Result<SerialOptions<'a>, CallFault>
     ensures taken { IfOk result (GivesOptions (map string_bytes words.entry.now)) }
     ensures stop { IfErr result (IsStopped (takes_call serial_names (map string_bytes words.entry.now))) }
+    ensures memory { IfErr result (WantsBehindTest (map string_bytes words.entry.now)) }
 {
     if has_barred(words) {
         return Err(CallFault::Refused(WordsFault::Words));

@@ -286,6 +286,37 @@ fn a_call_has_the_words_and_the_settings_of_the_system(rt: HostRuntime) {
     }
 }
 
+/// All seven settings are read of the system, in their order, whatever order the system has.
+#[test]
+fn the_variables_of_all_settings_are_read(rt: HostRuntime) {
+    let vars = [
+        ("UMAP_READ_AHEAD", b"7".as_slice()),
+        ("UMAP_EVICT_LOW_WATER_THRESHOLD", b"6".as_slice()),
+        ("UMAP_EVICT_HIGH_WATER_THRESHOLD", b"5".as_slice()),
+        ("UMAP_PAGE_EVICTORS", b"4".as_slice()),
+        ("UMAP_PAGE_FILLERS", b"3".as_slice()),
+        ("UMAP_BUFSIZE", b"2".as_slice()),
+        ("UMAP_PAGESIZE", b"64".as_slice()),
+    ];
+    let told = Told {
+        words: &[],
+        vars: &vars,
+    };
+    let wanted = [
+        "UMAP_PAGESIZE=64",
+        "UMAP_BUFSIZE=2",
+        "UMAP_PAGE_FILLERS=3",
+        "UMAP_PAGE_EVICTORS=4",
+        "UMAP_EVICT_HIGH_WATER_THRESHOLD=5",
+        "UMAP_EVICT_LOW_WATER_THRESHOLD=6",
+        "UMAP_READ_AHEAD=7",
+    ];
+    match read_call(&(told, rt.alloc())) {
+        Ok(call) => have(&rt, &call.vars, &wanted),
+        Err(fault) => panic!(rt; "{fault:?}"),
+    }
+}
+
 #[test]
 fn a_word_that_is_no_text_is_refused(rt: HostRuntime) {
     let words = [

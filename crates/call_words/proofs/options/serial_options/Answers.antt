@@ -14,3 +14,6 @@ returns-in-Ok-clause-taken c = record {
   stripes = c.get_str.ensures ∙ c.in-Ok.ensures.stripes;
   faults = c.get_str-in-Ok.ensures ∙ c.in-Ok.ensures.faults;
 }
+
+pub returns-in-OutOfMemory-clause-memory : goal.returns-in-OutOfMemory-clause-memory
+returns-in-OutOfMemory-clause-memory c = any_map c.args.words.now ∙ (sym c.has_barred.ensures ∙ c.if-has_barred.false)
