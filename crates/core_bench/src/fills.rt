@@ -33,7 +33,7 @@ pub fn byte_of(page: u32) -> u8 {
     (page % 251) as u8 + 1
 }
 
-/// Serves until the page is read in.
+/// Serves until the page is read in, or opened.
 fn bring_in<S: Store>(hand: &mut Hand<S>) {
     for _ in 0..SERVICES {
         match hand.serve() {
@@ -55,13 +55,15 @@ fn touch<S: Store>(hand: &mut Hand<S>, key: Key) -> bool {
     matches!(hand.load(key, PLACE), Some((Look::Hit, _)))
 }
 
-/// Stores the page's byte to it, which comes in where it is missing.
+/// Stores the page's byte to it, which comes in where it is missing and is opened where it is protected.
 pub fn stain<S: Store>(hand: &mut Hand<S>, key: Key) -> bool {
     let byte = byte_of(key.page);
-    if matches!(hand.save(key, PLACE, byte), Some(Look::Hit)) {
-        return true;
-    }
-    let _ = hand.raise(key, Why::Write);
+    let why = match hand.save(key, PLACE, byte) {
+        Some(Look::Hit) => return true,
+        Some(Look::Protected) => Why::Protected,
+        _ => Why::Write,
+    };
+    let _ = hand.raise(key, why);
     bring_in(hand);
     matches!(hand.save(key, PLACE, byte), Some(Look::Hit))
 }

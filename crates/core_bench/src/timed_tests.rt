@@ -3,12 +3,13 @@ ghost use Rattle.std.specs.Prelude.{◌≤◌, ◌*◌};
 ghost use Rattle.page_base.specs.declared.limits.TheConstants.{MOST_PAGES, MOST_REGIONS};
 ghost use Rattle.store_trait.specs.declared.mem_lane.MemLane.{MemLane};
 
-use crate::fills::{byte_of, go_round, stain};
-use crate::flushes::write_dirty;
+use crate::fills::{byte_of, go_round, stain, time_fills};
+use crate::flushes::{time_flushes, write_dirty};
 use crate::hand::Hand;
 use crate::meanwhile::PLACE;
 use crate::memory::{zero_lanes, zeros};
-use crate::steps::Unmaps;
+use crate::rounds::time_accesses;
+use crate::steps::{Unmaps, time_steps};
 use page_base::{Key, Layout};
 use page_model::{Cause, Counts};
 use std::test::Fail;
@@ -100,5 +101,19 @@ fn clean_pages_of_closing_regions_leave(rt: HostRuntime) -> Result<(), Fail> {
     assert!(rt; hand.unmap(0));
     assert!(rt; !hand.unmap(1));
     assert_eq!(rt; hand.into_lanes().len(), 4);
+    Ok(())
+}
+
+#[test]
+fn as_many_calls_are_timed_as_are_said(rt: HostRuntime) -> Result<(), Fail> {
+    assert!(rt; time_accesses(&rt, rt.alloc(), 4096, 64, 2, false).is_ok());
+    assert!(rt; time_fills(&rt, rt.alloc(), 2, 5).is_ok());
+    assert!(rt; time_flushes(&rt, rt.alloc(), 5).is_ok());
+    let times = time_steps(&rt, rt.alloc(), 2, 2, 3)?;
+    assert_eq!(rt; times.picks.calls, 6);
+    assert_eq!(rt; times.nexts.calls, 6);
+    assert_eq!(rt; times.lost.calls, 2);
+    // Half of the regions have two pages each, of which the oldest left for another measurement.
+    assert_eq!(rt; times.unmaps.calls, 126);
     Ok(())
 }
