@@ -128,13 +128,13 @@ fn stop_status(stop: LaneStop) -> Status
 
 /// What an input gives that isn't refused: a workload, and the table of its regions.
 #[derive(Drop)]
-struct Accepted {
-    workload: Workload,
-    table: RegionTable,
+pub(crate) struct Accepted {
+    pub(crate) workload: Workload,
+    pub(crate) table: RegionTable,
 }
 
 /// The workload of an input, if it isn't refused: by its text, by the rules on regions, or because it isn't built yet.
-fn accept(alloc: Global, layout: Layout, bytes: &[u8]) -> Result<Accepted, Status>
+pub(crate) fn accept(alloc: Global, layout: Layout, bytes: &[u8]) -> Result<Accepted, Status>
     ensures accepted { IfOk result (λ a. Accepts layout.page_size bytes.now (lines_of a.workload)) }
     ensures regions { IfOk result (λ a. CanBeOpened layout.page_size (lines_of a.workload)) }
     ensures built { IfOk result (λ a. is_built (lines_of a.workload) ≡ true) }
