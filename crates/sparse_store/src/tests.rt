@@ -57,5 +57,5 @@ fn the_longest_text_fills_its_room(rt: HostRuntime) {
         &mut out,
     );
     assert!(rt; end == 32 && &out[..32] == WHOLE);
-    assert!(rt; out[32] == b'9');
+    assert!(rt; &out[32..34] == b"\nf".as_slice());
 }
