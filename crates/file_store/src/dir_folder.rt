@@ -135,8 +135,8 @@ impl<R: Files<File = File> + Clone + Drop> DirFolder<R> {
         ensures part { IfOk result (IsFreshPart path.now shape made) }
         ensures memory { IfErr result (λ e. e ≡ FolderFault.OutOfMemory) }
     {
-        let rt = self.rt.clone().map_err(|_| FolderFault::OutOfMemory)?;
-        let path = String::from_str(self.alloc, path).map_err(|_| FolderFault::OutOfMemory)?;
+        let rt = self.rt.clone()?;
+        let path = String::from_str(self.alloc, path)?;
         Ok(DirPart {
             rt,
             path,
@@ -197,9 +197,7 @@ impl<R: Files<File = File> + Clone + Drop> Folder for DirFolder<R> {
         }
         let stripes = cut.layout.stripes();
         let mut parts = List::new(self.alloc);
-        parts
-            .reserve(stripes as usize)
-            .map_err(|_| FolderFault::OutOfMemory)?;
+        parts.reserve(stripes as usize)?;
         for stripe in 0..stripes {
             parts.put(self.part(text, Shape::Striped { cut: *cut, stripe }, need, true)?);
         }

@@ -6,7 +6,8 @@ ghost use Rattle.std.specs.Prelude.{◌≡◌, ◌≤◌, ◌<◌, false, [], �
 ghost use Rattle.std.specs.List.{Contains};
 
 use crate::part::Part;
-use page_base::{Bytes, Layout, List};
+use page_base::{Bytes, Layout, List, OutOfMemory};
+use std::alloc::AllocError;
 use thiserror::Error;
 
 /// Why a call of a folder is refused. The lengths are in bytes.
@@ -21,6 +22,26 @@ pub enum FolderFault {
     Failed { faults: u64 },
     #[error("out of memory")]
     OutOfMemory,
+}
+
+impl From<AllocError> for FolderFault {
+    ghost use Rattle.file_store.specs.declared.folder.FolderFault.TheVariants.{OutOfMemory};
+
+    ghost from_gives = { λ _ fault. fault ≡ OutOfMemory };
+
+    fn from(_: AllocError) -> FolderFault {
+        FolderFault::OutOfMemory
+    }
+}
+
+impl From<OutOfMemory> for FolderFault {
+    ghost use Rattle.file_store.specs.declared.folder.FolderFault.TheVariants.{OutOfMemory};
+
+    ghost from_gives = { λ _ fault. fault ≡ OutOfMemory };
+
+    fn from(_: OutOfMemory) -> FolderFault {
+        FolderFault::OutOfMemory
+    }
 }
 
 /// How a file is shared out to the stripes of a layout: the pages of one region, in order from the file's first byte on.

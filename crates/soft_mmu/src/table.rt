@@ -46,7 +46,7 @@ impl PageTable {
         let mut regions = Vec::with_capacity(alloc, shapes.len())?;
         for shape in shapes.as_slice() {
             let region = RegionPages::absent(alloc, shape.pages)?;
-            regions.push(region).map_err(|_| OutOfMemory)?;
+            regions.push_reserved(region);
         }
         Ok(PageTable { regions })
     }
