@@ -3,7 +3,7 @@
 //!
 //! That these few lines read and write the file and the place that they name is by reading them: no contract can say what a
 //! file holds. Every error counts as a fault, and so does a read or a write that ends before all bytes have moved.
-ghost use Rattle.std.specs.Prelude.{◌≡◌, ◌≤◌};
+ghost use Rattle.std.specs.Prelude.{◌≡◌, ◌≤◌, ◌<◌, ◌^◌};
 
 use crate::mem_part::Shape;
 use crate::part::{Part, PartFault};
@@ -21,6 +21,7 @@ pub struct DirPart<R> {
     pub(crate) length: u64,
     pub(crate) made: bool,
     pub(crate) faults: u64,
+    pub ghost counted: { faults < 2 ^ 64 },
 }
 
 fn read_part<R: Files<File = File>>(
@@ -57,7 +58,7 @@ impl<R> DirPart<R> {
 
     /// Counts a failed call.
     fn fail(&mut self) -> PartFault
-        ensures same { self.new ≡ record self.old { faults = self.new.faults } }
+        ensures same { self.new ≡ record self.old { faults = self.new.faults; counted = self.new.counted } }
         ensures later { self.old.faults ≤ self.new.faults }
         ensures rose { Rose self.old.faults self.new.faults }
         ensures carried { result.faults ≡ self.new.faults }
@@ -78,6 +79,8 @@ impl<R: Files<File = File>> Part for DirPart<R> {
     ghost named = { λ p. mem_named (string_bytes p.path) p.shape };
 
     ghost whole_pieces = { λ p k. tt };
+
+    ghost small_count = { λ p. p.counted };
 
     fn made(&self) -> bool {
         self.made

@@ -65,4 +65,6 @@ impl<P: Part> Store for FileLane<P> {
     }
 
     ghost whole_pages = { λ s page. lane_pages_whole (P.seen s.part) s.striped page (P.whole_pieces s.part page) };
+
+    ghost small_count = { λ s. P.small_count s.part };
 }

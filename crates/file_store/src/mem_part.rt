@@ -1,5 +1,5 @@
 //! A part of a file in memory: a copy of the file's bytes as far as the part reaches, which is put back when it is closed.
-ghost use Rattle.std.specs.Prelude.{◌≡◌, ◌≤◌, ◌+◌, true, false, length, map, replicate, OnOk, OnErr};
+ghost use Rattle.std.specs.Prelude.{◌≡◌, ◌≤◌, ◌<◌, ◌+◌, ◌^◌, true, false, length, map, replicate, OnOk, OnErr};
 ghost use Rattle.std.specs.List.{list_any};
 ghost use Rattle.file_store.specs.Parts.{reach};
 ghost use Rattle.file_store.specs.Shelves.{part_number};
@@ -47,6 +47,7 @@ pub struct MemPart {
     pub(crate) made: bool,
     failing: Vec<Failing>,
     faults: u64,
+    ghost counted: { faults < 2 ^ 64 },
     ghost sized: { length bytes.items ≡ reach (extent_of path.items shape) },
     ghost zeros: { made ≡ false → bytes.items ≡ replicate (reach (extent_of path.items shape)) 0 },
 }
@@ -110,7 +111,7 @@ impl MemPart {
 
     /// Counts a failed call.
     fn fail(&mut self) -> PartFault
-        ensures same { self.new ≡ record self.old { faults = self.new.faults } }
+        ensures same { self.new ≡ record self.old { faults = self.new.faults; counted = self.new.counted } }
         ensures later { self.old.faults ≤ self.new.faults }
         ensures rose { Rose self.old.faults self.new.faults }
         ensures carried { result.faults ≡ self.new.faults }
@@ -200,4 +201,6 @@ impl Part for MemPart {
     ghost named = { λ s. mem_named s.path.items s.shape };
 
     ghost whole_pieces = { λ s p. mem_pieces_whole (extent_of s.path.items s.shape) s.bytes.items s.sized p };
+
+    ghost small_count = { λ s. s.counted };
 }

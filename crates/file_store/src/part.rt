@@ -2,7 +2,7 @@
 //!
 //! What a part tells is a list of pieces: of a striped part one for each page of its region, of a whole part all its bytes.
 //! A part that tells nothing, as one of a real file, is bound by its count of faults and by what it is named.
-ghost use Rattle.std.specs.Prelude.{◌≡◌, ℕ, true, false, length, OnOk, OnErr, IfSome};
+ghost use Rattle.std.specs.Prelude.{◌≡◌, ◌<◌, ◌^◌, ℕ, true, false, length, OnOk, OnErr, IfSome};
 ghost use Rattle.page_base.specs.Lanes.{told_at};
 ghost use Rattle.store_trait.specs.Causes.{HasCause};
 ghost use Rattle.file_store.specs.Parts.{PartSeen, IsPartRange, piece_size, TellsRange, HasWritten, OthersStay, IsZeroed, IsNamed};
@@ -63,4 +63,7 @@ pub trait Part {
 
     /// A told piece is whole.
     ghost whole_pieces: { (s : Self) (p : ℕ) → IfSome (told_at (seen s).told p) (λ bytes. length bytes ≡ piece_size (seen s).name.extent) };
+
+    /// A count of faults is a number of 64 bits.
+    ghost small_count: { (s : Self) → (seen s).count < 2 ^ 64 };
 }

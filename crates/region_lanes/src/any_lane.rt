@@ -13,10 +13,11 @@ pub enum AnyLane<P: Part> {
 }
 
 impl<P: Part> Store for AnyLane<P> {
-    ghost use Rattle.std.specs.Prelude.{length};
+    ghost use Rattle.std.specs.Prelude.{◌<◌, ◌^◌, length};
     ghost use Rattle.page_base.specs.Lanes.{LaneSeen, told_at};
     ghost use Rattle.store_trait.specs.MemLanes.{lane_origin};
     ghost use Rattle.store_trait.specs.WholePages.{memory_pages_whole};
+    ghost use Rattle.store_trait.specs.SmallCounts.{none_is_small};
     ghost use Rattle.file_store.specs.FileLanes.{lane_pages_whole};
     ghost use Rattle.region_lanes.specs.declared.any_lane.AnyLane.TheVariants.{Memory, File};
 
@@ -44,6 +45,8 @@ impl<P: Part> Store for AnyLane<P> {
     }
 
     ghost whole_pages = { λ s page. elim s as (λ k. let l : LaneSeen = elim k [ Memory m ↦ ⟦<MemLane as Store>⟧.seen m | File f ↦ ⟦<FileLane<P> as Store>⟧.seen f ] in IfSome (told_at l.told page) (λ bytes. length bytes ≡ l.origin.page_size)) [ Memory m ↦ memory_pages_whole (lane_origin m) m.kept.items m.reaches page | File f ↦ lane_pages_whole (P.seen f.part) f.striped page (P.whole_pieces f.part page) ] };
+
+    ghost small_count = { λ s. elim s as (λ k. let l : LaneSeen = elim k [ Memory m ↦ ⟦<MemLane as Store>⟧.seen m | File f ↦ ⟦<FileLane<P> as Store>⟧.seen f ] in l.count < 2 ^ 64) [ Memory m ↦ none_is_small | File f ↦ P.small_count f.part ] };
 }
 
 /// Closes a lane. It takes no memory.

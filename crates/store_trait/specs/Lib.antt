@@ -5,4 +5,5 @@ pub mod Laws
 pub mod Memory
 pub mod InsideMemory
 pub mod MemLanes
+pub mod SmallCounts
 pub mod WholePages

@@ -65,7 +65,9 @@ impl<S: Store> FailLane<S> {
 }
 
 impl<S: Store> Store for FailLane<S> {
+    ghost use Rattle.std.specs.Prelude.{◌+◌};
     ghost use Rattle.store_trait.specs.FailLanes.{fail_seen};
+    ghost use Rattle.store_trait.specs.SmallCounts.{capped_is_small};
 
     ghost seen = { fail_seen S.seen };
 
@@ -117,4 +119,6 @@ impl<S: Store> Store for FailLane<S> {
     }
 
     ghost whole_pages = { λ s page. S.whole_pages s.inner page };
+
+    ghost small_count = { λ s. capped_is_small (s.failed + (S.seen s.inner).count) };
 }

@@ -126,6 +126,7 @@ impl MemLane {
 impl Store for MemLane {
     ghost use Rattle.store_trait.specs.MemLanes.{lane_origin, lane_seen};
     ghost use Rattle.store_trait.specs.WholePages.{memory_pages_whole};
+    ghost use Rattle.store_trait.specs.SmallCounts.{none_is_small};
 
     ghost seen = { lane_seen };
 
@@ -146,4 +147,6 @@ impl Store for MemLane {
     }
 
     ghost whole_pages = { λ s page. memory_pages_whole (lane_origin s) s.kept.items s.reaches page };
+
+    ghost small_count = { λ s. none_is_small };
 }

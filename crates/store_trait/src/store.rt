@@ -2,7 +2,7 @@
 //!
 //! Whatever implements it may fail at any call, and then says so by its count of faults. A caller that hands a fault on
 //! relies on that count alone, so an implementation raises it before it answers `Err`.
-ghost use Rattle.std.specs.Prelude.{◌≡◌, ℕ, length, IfSome, OnOk};
+ghost use Rattle.std.specs.Prelude.{◌≡◌, ◌<◌, ◌^◌, ℕ, length, IfSome, OnOk};
 ghost use Rattle.page_base.specs.Lanes.{LaneSeen, told_at};
 ghost use Rattle.store_trait.specs.Lanes.{IsPlace, GivesPageAt, TakesPageAt, ChangesOnlyAt, HasLaneCause};
 
@@ -44,4 +44,7 @@ pub trait Store {
 
     /// A told page has one page of bytes.
     ghost whole_pages: { (s : Self) (page : ℕ) → IfSome (told_at (seen s).told page) (λ bytes. length bytes ≡ (seen s).origin.page_size) };
+
+    /// A count of faults is a number of 64 bits.
+    ghost small_count: { (s : Self) → (seen s).count < 2 ^ 64 };
 }

@@ -199,8 +199,6 @@ impl<S: Store> Stripe<S> {
             lane,
             taken: _,
         } = trip;
-        // The entry's number has 64 bits, since the lane counts in them.
-        let _ = lane.faults();
         self.take_home(key, lane);
         self.count_fault();
     }
