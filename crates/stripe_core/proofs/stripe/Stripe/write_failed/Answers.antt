@@ -19,7 +19,7 @@ returns-clause-stands g c =
     let whole : TripSeen → Core = λ x. step.write_failed c.args.self.now x.start.key x.lane in
     let made : c.count_fault.new.self ≡ step.write_failed c.args.self.now t.key (g.S.Store.seen t.lane) = c.count_fault.ensures.step ∙ ap counts c.take_home.ensures.step in
     let seen : c.count_fault.new.self ≡ step.write_failed c.args.self.now c.args.trip.start.key c.args.trip.lane = made ∙ ap whole c.trip.view_is in
-    let few : (g.S.Store.seen t.lane).count < 2 ^ 64 = g.S.Store.small_count t.lane in
+    let few : (g.S.Store.seen t.lane).count < 2 ^ 64 = g.met.S.Store.small_count t.lane in
     let bounded : TripSeen → Type 0 = λ x. x.lane.count < 2 ^ 64 in
     let small : c.args.trip.lane.count < 2 ^ 64 = subst bounded c.trip.view_is few in
     rw seen (c.write_failed_stands.ensures h o c.args.self.now c.args.trip.start c.args.trip.lane s open_write c.requires.others c.requires.rose small)
