@@ -143,6 +143,8 @@ impl Part for MemPart {
         ensures err { OnErr result ((⟦<MemPart as Part>⟧.seen self.new).made ≡ false) }
         ensures zeroed { OnOk result (IsZeroed (⟦<MemPart as Part>⟧.seen self.old).name.extent
             (⟦<MemPart as Part>⟧.seen self.old).told (⟦<MemPart as Part>⟧.seen self.new).told) }
+        ensures kept { OnErr result ((⟦<MemPart as Part>⟧.seen self.new).told ≡
+            (⟦<MemPart as Part>⟧.seen self.old).told) }
         ensures name { (⟦<MemPart as Part>⟧.seen self.new).name ≡ (⟦<MemPart as Part>⟧.seen self.old).name }
         ensures cause { HasCause (λ e. e.faults) (⟦<MemPart as Part>⟧.seen self.old).count
             (⟦<MemPart as Part>⟧.seen self.new).count result }

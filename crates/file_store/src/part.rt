@@ -31,6 +31,7 @@ pub trait Part {
         ensures ok { OnOk result ((seen self.new).made ≡ true) }
         ensures err { OnErr result ((seen self.new).made ≡ false) }
         ensures zeroed { OnOk result (IsZeroed (seen self.old).name.extent (seen self.old).told (seen self.new).told) }
+        ensures kept { OnErr result ((seen self.new).told ≡ (seen self.old).told) }
         ensures name { (seen self.new).name ≡ (seen self.old).name }
         ensures cause { HasCause (λ e. e.faults) (seen self.old).count (seen self.new).count result };
 
