@@ -55,7 +55,7 @@ TellsLength file answer = answer ≡ option_map (λ bytes. length bytes) file
 
 -- the first bytes of a file, as many as fit or are there
 abbrev pub TellsHead : Option (List ℕ) → (buf : List ℕ) → Result ℕ FolderFault → Type 0
-TellsHead file buf (Ok n) = IfSome file (λ bytes. (n ≡ min (length buf) (length bytes)) × (take n buf ≡ take n bytes))
+TellsHead file buf (Ok n) = IsSomeAnd file (λ bytes. (n ≡ min (length buf) (length bytes)) × (take n buf ≡ take n bytes))
 TellsHead file buf (Err Missing) = file ≡ None
 TellsHead file buf (Err (Failed faults)) = is_some file ≡ true
 TellsHead file buf (Err (TooShort have need)) = ⊥
