@@ -1,3 +1,9 @@
 pub mod Spellings
 pub mod Refusing
 pub mod Metas
+pub mod PartLists
+pub mod FilePaths
+pub mod ClosingParts
+pub mod Creating
+pub mod LookedAt
+pub mod OpeningFiles

@@ -29,7 +29,7 @@ spelt f n some first d is small = ap decimal is ∙ decimal-digits_value (numera
 
 -- ---- the spelling of a number in the range
 
-digits_of_decimal : (v : ℕ) → v ≤ MOST_META_NUMBER → (i : ℕ) → i < length (decimal v) → IsInRange 48 57 (get_or (decimal v) i 0)
+pub digits_of_decimal : (v : ℕ) → v ≤ MOST_META_NUMBER → (i : ℕ) → i < length (decimal v) → IsInRange 48 57 (get_or (decimal v) i 0)
 digits_of_decimal v most = digits_by_place (decimal v) (decimal_is_IsNumeral v (omega arith)).0.1
 
 value_of_decimal : (v : ℕ) → v ≤ MOST_META_NUMBER → digits_value 10 (decimal v) ≡ v

@@ -1,2 +1,7 @@
-pub mod Metas
+pub mod Closings
+pub mod Files
+pub mod InsideOpenings
+pub mod InsideStores
 pub mod InsideMetas
+pub mod Metas
+pub mod Openings

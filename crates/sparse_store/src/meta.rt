@@ -4,7 +4,7 @@
 //! metadata text, so that the byte that is named is the first with which none goes on.
 ghost use Rattle.std.specs.Prelude.{◌≡◌, ◌≤◌, ◌+◌, ◌++◌, ◌/◌, ◌⊎◌, ◌<◌, take, drop, length, IfOk, IfErr, IfSome, IfNone};
 ghost use Rattle.std.specs.Str.Parse.{AllDigits, digits_value};
-ghost use Rattle.sparse_store.specs.declared.meta.TheConstants.{MOST_META_NUMBER};
+ghost use Rattle.sparse_store.specs.declared.meta.TheConstants.{META_ROOM, MOST_META_NUMBER};
 ghost use Rattle.sparse_store.specs.Metas.{meta_text, IsMeta, IsBadMeta};
 ghost use Rattle.sparse_store.specs.InsideMetas.{StopsAt, EndsDigits, NoNumber, Numbered, LabelledNumber, NoLabelledNumber};
 
@@ -162,6 +162,7 @@ fn put(out: &mut [u8], at: usize, piece: &[u8]) -> usize
 pub fn write_meta(meta: Meta, out: &mut [u8; META_ROOM]) -> usize
     requires meta { IsMeta meta }
     ensures text { take result out.new ≡ meta_text meta }
+    ensures within { result ≤ META_ROOM }
 {
     let mut size = itoa::Buffer::new();
     let mut file = itoa::Buffer::new();
