@@ -1,5 +1,5 @@
 -- What serves a piece of a line, the line may make.
-use Rattle.std.proofs.Common.{◌≡◌, ℕ, ◌+◌, ◌*◌, ◌&&◌, ◌==◌, Bool, nat_lt, true, List, length, refl, sym, ap, ◌∙◌, arith}
+use Rattle.std.proofs.Common.{◌≡◌, ℕ, ◌+◌, ◌*◌, ◌&&◌, ◌==◌, Bool, nat_lt, true, List, length, refl, ap, ◌∙◌, arith}
 use Rattle.std.proofs.lemmas.Bool.{and_from, and_parts, eq-eqb, eqb-true, lt-ltb}
 use Rattle.page_base.specs.declared.keys.Key.{Key}
 use Rattle.page_base.specs.declared.keys.Piece.{Piece}
@@ -8,8 +8,7 @@ use Rattle.page_base.specs.declared.keys.Why.TheVariants.{Read, Write, Protected
 use Rattle.page_base.specs.Pages.{same}
 use Rattle.page_model.specs.declared.entry.Cause.{Cause}
 use Rattle.page_model.specs.declared.entry.Cause.TheVariants.{Pressure, Flush, Unmap}
-use Rattle.page_model.specs.declared.entry.Entry.{Entry}
-use Rattle.page_model.specs.declared.entry.Entry.TheVariants.{Load, Save, Raised, StartRead, Filled, ReadFailed, WriteFailed, Opened, Dropped, StartWrite, Evicted, Written, Hint, Closing, Unmapped}
+use Rattle.page_model.specs.declared.entry.Entry.TheVariants.{Raised, StartRead, Filled, ReadFailed, Opened, Dropped, StartWrite, Evicted, Written}
 use Rattle.region_table.specs.Covers.{IsNext}
 use Rattle.serial_pager.specs.Accesses.{is_read, is_pressure}
 use Rattle.serial_pager.specs.Holdings.{is_for_store}
@@ -25,7 +24,7 @@ in_range size region off len done piece next =
     (lt-ltb off (piece.key.page * size + size) (omega (arith, next.at.begins, next.at.some, next.at.within)))
     (lt-ltb (piece.key.page * size) (off + len) (omega (arith, next.at.begins, next.at.some, next.short))))
 
-same_key : (a b : Key) → same a b ≡ true → a ≡ b
+pub same_key : (a b : Key) → same a b ≡ true → a ≡ b
 same_key a b e =
     let parts = and_parts (a.page == b.page) (a.region == b.region) e in
     let p : a.page ≡ b.page = eqb-true a.page b.page parts.0 in
@@ -40,23 +39,18 @@ module _ (z : ℕ) (l : Line) (served : makes_faults l ≡ true) where
   for_room Unmap h = absurd (cc)
 
   serves_by : (k : Key) (reasons : Why → Bool) → ((why : Why) → reasons why ≡ true → raises z l k why ≡ true) → ServesBy (may_make z l) k reasons
-  serves_by k reasons own (Load j place bytes) h = absurd (cc)
-  serves_by k reasons own (Save j place bytes) h = absurd (cc)
   serves_by k reasons own (Raised j why) h =
       let parts = and_parts (same j k) (reasons why) h in
       ap (λ (i : Key). raises z l i why) (same_key j k parts.0) ∙ own why parts.1
   serves_by k reasons own (StartRead j) h = served
   serves_by k reasons own (Filled j) h = served
   serves_by k reasons own (ReadFailed j n) h = served
-  serves_by k reasons own (WriteFailed j n) h = absurd (cc)
   serves_by k reasons own (Opened j) h = served
   serves_by k reasons own (Dropped j) h = served
   serves_by k reasons own (StartWrite j why) h = for_room why h
   serves_by k reasons own (Evicted j why) h = for_room why h
   serves_by k reasons own (Written j at bytes) h = served
-  serves_by k reasons own (Hint j answer) h = absurd (cc)
-  serves_by k reasons own (Closing r) h = absurd (cc)
-  serves_by k reasons own (Unmapped r) h = absurd (cc)
+  serves_by k reasons own e h = absurd (cc)
 
 pub load_serves : (z r off len : ℕ) (k : Key) → is_in_range z r off len k ≡ true → ServesBy (may_make z (load_line r off len)) k is_read
 load_serves z r off len k its = serves_by z (load_line r off len) refl k is_read own

@@ -1,16 +1,15 @@
 -- In a run that is flagged the count of some lane rose.
-use Rattle.std.proofs.Common.{◌≡◌, inl, inr, ℕ, ◌+◌, ◌^◌, ◌/◌, ◌<◌, ◌≤◌, min, Bool, true, false, cond, ◌||◌, ◌==◌, List, [], ◌∷◌, ◌++◌, length, refl, sym, ap, ◌∙◌, arith}
+use Rattle.std.proofs.Common.{◌≡◌, inl, inr, ℕ, ◌+◌, ◌^◌, ◌/◌, ◌<◌, ◌≤◌, Bool, true, false, ◌||◌, ◌==◌, List, [], ◌∷◌, ◌++◌, length, refl, sym, ap, ◌∙◌, arith}
 use Rattle.std.specs.List.{list_any}
-use Rattle.std.proofs.lemmas.Bool.{cases_Bool, and_from, eq-eqb}
+use Rattle.std.proofs.lemmas.Bool.{cases_Bool}
 use Rattle.std.proofs.lemmas.Nat.{mod_below}
-use Rattle.page_base.specs.Lanes.{LaneSeen, Rose}
-use Rattle.workload_text.specs.Line.{Line}
+use Rattle.page_base.specs.Lanes.{Rose}
 use Rattle.workload_text.specs.Grammar.{Region}
-use Rattle.workload_text.specs.Accepted.{AllFit, regions_of}
+use Rattle.workload_text.specs.Accepted.{regions_of}
 use Rattle.script_run.specs.Contents.{contents_of}
-use Rattle.script_run.specs.Replies.{Reply, nothing, begun, loaded, ok, unmapped, fault, spent, is_fault_reply}
+use Rattle.script_run.specs.Replies.{Reply, fault, is_fault_reply}
 use Rattle.flat_lines.specs.Spreads.{Spread, stripe_in}
-use Rattle.script_run.specs.FitsSerial.{lane_at, region_is_told, counts_named, Rising, CountsFit, last_count, EndSeen, FitsSerial}
+use Rattle.script_run.specs.FitsSerial.{lane_at, region_is_told, counts_named, Rising, CountsFit, last_count}
 use Rattle.script_run.specs.Tellings.{FlagIsCounted}
 use Rattle.script_run.proofs.InMemory.{AllKnown, all_known, names_one}
 
@@ -35,12 +34,7 @@ first_named gs t (fault k count done ∷ rest) some known faulted = record {
   more = counts_named t (stripe_in t k) k.region rest;
   named = ap (λ ns. ns ++ counts_named t (stripe_in t k) k.region rest) (names_one t k count done);
 }
-first_named gs t (nothing ∷ rest) some known faulted = let x = first_named gs t rest some known faulted in record { s = x.s; r = x.r; stripe = x.stripe; region = x.region; count = x.count; more = x.more; named = x.named }
-first_named gs t (begun name ∷ rest) some known faulted = let x = first_named gs t rest some known faulted in record { s = x.s; r = x.r; stripe = x.stripe; region = x.region; count = x.count; more = x.more; named = x.named }
-first_named gs t (loaded bytes ∷ rest) some known faulted = let x = first_named gs t rest some known faulted in record { s = x.s; r = x.r; stripe = x.stripe; region = x.region; count = x.count; more = x.more; named = x.named }
-first_named gs t (ok ∷ rest) some known faulted = let x = first_named gs t rest some known faulted in record { s = x.s; r = x.r; stripe = x.stripe; region = x.region; count = x.count; more = x.more; named = x.named }
-first_named gs t (unmapped ∷ rest) some known faulted = let x = first_named gs t rest some known faulted in record { s = x.s; r = x.r; stripe = x.stripe; region = x.region; count = x.count; more = x.more; named = x.named }
-first_named gs t (spent ∷ rest) some known faulted = let x = first_named gs t rest some known faulted in record { s = x.s; r = x.r; stripe = x.stripe; region = x.region; count = x.count; more = x.more; named = x.named }
+first_named gs t (a ∷ rest) some known faulted = let x = first_named gs t rest some known faulted in record { s = x.s; r = x.r; stripe = x.stripe; region = x.region; count = x.count; more = x.more; named = x.named }
 
 -- a count that rose once has risen
 rose_by : (first n : ℕ) (ns : List ℕ) → Rose first n → Rising n ns → Rose first (last_count n ns)

@@ -7,21 +7,22 @@ use Rattle.std.proofs.lemmas.List.Elements.{filter-append}
 use Rattle.std.proofs.lemmas.List.Sums.{sum_by-cons}
 use Rattle.histories.specs.Histories.{by, calls_of}
 use Rattle.histories.specs.Relations.{CallsOfOne}
+use Rattle.page_base.specs.declared.keys.Key.{Key}
 use Rattle.page_base.specs.declared.keys.Piece.{Piece}
 use Rattle.page_model.specs.declared.entry.Entry.{Entry}
 use Rattle.page_model.specs.declared.entry.Entry.TheVariants as entry
-use Rattle.page_model.specs.declared.entry.Entry.TheVariants.{Save, StartWrite, Written, WriteFailed}
-use Rattle.page_model.specs.Entries.{key_of, is_access, lies_in, of_stripe}
+use Rattle.page_model.specs.declared.entry.Entry.TheVariants.{Save, ReadFailed, StartWrite, Written, WriteFailed}
+use Rattle.page_model.specs.Entries.{key_of, is_access, is_fault, lies_in, of_stripe}
 use Rattle.page_model.specs.Owned.{is_owners, OneOwner, joined_accesses}
 use Rattle.page_model.specs.Pieces.{bytes_in, saves}
 use Rattle.region_table.specs.Covers.{PiecesCover}
 use Rattle.region_table.specs.Pieces.{pieces_of}
 use Rattle.serial_pager.specs.Writings.{flushes}
-use Rattle.workload_text.specs.Line.{Line, map_line, script_line, load_line, store_line, prefetch_line, flush_line, unmap_line}
+use Rattle.workload_text.specs.Line.{Line, load_line, store_line}
 use Rattle.flat_lines.specs.Spreads.{Spread, stripe_in}
 use Rattle.flat_lines.specs.Lines.{is_other, LineDid, more_made, AllDid}
 use Rattle.flat_lines.specs.Flat.{OwnersAreFlat}
-use Rattle.script_run.specs.Replies.{Reply, nothing, begun, loaded, ok, unmapped, fault, spent}
+use Rattle.script_run.specs.Replies.{Reply, loaded, ok, fault}
 use Rattle.script_run.specs.LineEntries.{Accesses, Failure, Makes, AllMake}
 use Rattle.script_run.specs.FlatJournals.{IsPartOf, ArePartsOf, JournalsAreFlat}
 
@@ -54,11 +55,7 @@ did_one cover t (load_line r off len) (fault k count done) es some acc = record 
   is = acc.3;
   did = (acc.0, (acc.2.next ∷ acc.2.rest, acc.2.all_are), acc.3 ∙ sym acc.2.bytes, acc.4);
 }
-did_one cover t (load_line r off len) nothing es some acc = record { part = []; is = refl; did = ([], (pieces_of t.page_size r off len, refl), refl, acc) }
-did_one cover t (load_line r off len) (begun name) es some acc = record { part = []; is = refl; did = ([], (pieces_of t.page_size r off len, refl), refl, acc) }
-did_one cover t (load_line r off len) ok es some acc = record { part = []; is = refl; did = ([], (pieces_of t.page_size r off len, refl), refl, acc) }
-did_one cover t (load_line r off len) unmapped es some acc = record { part = []; is = refl; did = ([], (pieces_of t.page_size r off len, refl), refl, acc) }
-did_one cover t (load_line r off len) spent es some acc = record { part = []; is = refl; did = ([], (pieces_of t.page_size r off len, refl), refl, acc) }
+did_one cover t (load_line r off len) a es some acc = record { part = []; is = refl; did = ([], (pieces_of t.page_size r off len, refl), refl, acc) }
 did_one cover t (store_line r off bytes) ok es some acc =
     let covers = cover t.page_size r off (length bytes) some in
     record {
@@ -71,60 +68,39 @@ did_one cover t (store_line r off bytes) (fault k count done) es some acc = reco
   is = refl;
   did = (acc.0, (acc.1.next ∷ acc.1.rest, acc.1.all_are), ap (λ n. take n bytes) (sym acc.1.bytes), acc.2 ∙ saves_cut acc.0 bytes done acc.1.bytes);
 }
-did_one cover t (store_line r off bytes) nothing es some acc = record { part = []; is = refl; did = ([], (pieces_of t.page_size r off (length bytes), refl), refl, acc) }
-did_one cover t (store_line r off bytes) (begun name) es some acc = record { part = []; is = refl; did = ([], (pieces_of t.page_size r off (length bytes), refl), refl, acc) }
-did_one cover t (store_line r off bytes) (loaded b) es some acc = record { part = []; is = refl; did = ([], (pieces_of t.page_size r off (length bytes), refl), refl, acc) }
-did_one cover t (store_line r off bytes) unmapped es some acc = record { part = []; is = refl; did = ([], (pieces_of t.page_size r off (length bytes), refl), refl, acc) }
-did_one cover t (store_line r off bytes) spent es some acc = record { part = []; is = refl; did = ([], (pieces_of t.page_size r off (length bytes), refl), refl, acc) }
-did_one cover t (map_line name backing size writable) a es some acc = record { part = []; is = refl; did = ap (list_all is_other) acc }
-did_one cover t (script_line name) a es some acc = record { part = []; is = refl; did = ap (list_all is_other) acc }
-did_one cover t (prefetch_line r off len) a es some acc = record { part = []; is = refl; did = ap (list_all is_other) acc }
-did_one cover t flush_line a es some acc = record { part = []; is = refl; did = ap (list_all is_other) acc }
-did_one cover t (unmap_line r) a es some acc = record { part = []; is = refl; did = ap (list_all is_other) acc }
+did_one cover t (store_line r off bytes) a es some acc = record { part = []; is = refl; did = ([], (pieces_of t.page_size r off (length bytes), refl), refl, acc) }
+did_one cover t l a es some acc = record { part = []; is = refl; did = ap (list_all is_other) acc }
 
 -- ---- what was made, as accesses
 
 abbrev accesses_in : (ℕ → List Entry) → ℕ → List Entry
 accesses_in es s = filter is_access (es s)
 
+-- a line's failure is nothing, or one entry
+abbrev pub IsFailure : List Entry → Type 0
+IsFailure es = (es ≡ []) ⊎ ((e : Entry) × (es ≡ e ∷ []) × (is_fault e ≡ true))
+
+pub failure_is : (t : Spread) (l : Line) (a : Reply) (es : List Entry) → Failure t.page_size l a es → IsFailure es
+failure_is t (load_line r off len) (fault k count done) es f = inr (f.0, f.1, elim f.2 [ inl x ↦ ap is_fault x.1 | inr x ↦ ap is_fault x ])
+failure_is t (store_line r off bytes) (fault k count done) es f = inr (f.0, f.1, elim f.2 [ inl x ↦ ap is_fault x.1 | inr x ↦ ap is_fault x ])
+failure_is t l a es f = inl f
+
 -- a failure is no access
-no_access : (t : Spread) (l : Line) (a : Reply) (es : List Entry) (s : ℕ) → Failure t.page_size l a es → filter is_access (of_stripe (stripe_in t) s es) ≡ []
-no_access t l a es s f = go (failed l a f)
+no_access : (stripe : Key → ℕ) (es : List Entry) (s : ℕ) → IsFailure es → filter is_access (of_stripe stripe s es) ≡ []
+no_access stripe es s (inl none) = ap (λ xs. filter is_access (of_stripe stripe s xs)) none
+no_access stripe es s (inr x) = ap (λ xs. filter is_access (of_stripe stripe s xs)) x.1 ∙ one x.0 (lies_in stripe s (key_of x.0)) x.2
   where
-    one : (e : Entry) (b : Bool) → is_access e ≡ false → filter is_access (cond b (e ∷ []) []) ≡ []
-    one e true n = ap (λ c. cond c (e ∷ []) []) n
-    one e false n = refl
-
-    go : (es ≡ []) ⊎ ((e : Entry) × (es ≡ e ∷ []) × (is_access e ≡ false)) → filter is_access (of_stripe (stripe_in t) s es) ≡ []
-    go (inl none) = ap (λ xs. filter is_access (of_stripe (stripe_in t) s xs)) none
-    go (inr x) = ap (λ xs. filter is_access (of_stripe (stripe_in t) s xs)) x.1 ∙ one x.0 (lies_in (stripe_in t) s (key_of x.0)) x.2
-
-    failed : (l : Line) (a : Reply) → Failure t.page_size l a es → (es ≡ []) ⊎ ((e : Entry) × (es ≡ e ∷ []) × (is_access e ≡ false))
-    failed (load_line r off len) (fault k count done) f = inr (f.0, f.1, elim f.2 [ inl x ↦ ap is_access x.1 | inr x ↦ ap is_access x ])
-    failed (store_line r off bytes) (fault k count done) f = inr (f.0, f.1, elim f.2 [ inl x ↦ ap is_access x.1 | inr x ↦ ap is_access x ])
-    failed (load_line r off len) nothing f = inl f
-    failed (load_line r off len) (begun name) f = inl f
-    failed (load_line r off len) (loaded bytes) f = inl f
-    failed (load_line r off len) ok f = inl f
-    failed (load_line r off len) unmapped f = inl f
-    failed (load_line r off len) spent f = inl f
-    failed (store_line r off bytes) nothing f = inl f
-    failed (store_line r off bytes) (begun name) f = inl f
-    failed (store_line r off bytes) (loaded b) f = inl f
-    failed (store_line r off bytes) ok f = inl f
-    failed (store_line r off bytes) unmapped f = inl f
-    failed (store_line r off bytes) spent f = inl f
-    failed (map_line name backing size writable) a f = inl f
-    failed (script_line name) a f = inl f
-    failed (prefetch_line r off len) a f = inl f
-    failed flush_line a f = inl f
-    failed (unmap_line r) a f = inl f
+    one : (e : Entry) (b : Bool) → is_fault e ≡ true → filter is_access (cond b (e ∷ []) []) ≡ []
+    one (ReadFailed k n) true f = refl
+    one (WriteFailed k n) true f = refl
+    one e false f = refl
+    one e b f = absurd cc
 
 made_accesses : (t : Spread) (l : Line) (a : Reply) (made behind : ℕ → List Entry) (m : Makes t l a made) (s : ℕ) → filter is_access (made s ++ behind s) ≡ more_made t m.accesses (accesses_in behind) s
 made_accesses t l a made behind m s =
     filter-append is_access (made s) (behind s)
     ∙ ap (λ xs. xs ++ filter is_access (behind s))
-    (ap (filter is_access) (m.in_order.made_are s) ∙ filter-append is_access (of_stripe (stripe_in t) s m.failure) (m.in_order.served s) ∙ ap (λ xs. xs ++ filter is_access (m.in_order.served s)) (no_access t l a m.failure s m.failure_is) ∙ m.in_order.in_order s)
+    (ap (filter is_access) (m.in_order.made_are s) ∙ filter-append is_access (of_stripe (stripe_in t) s m.failure) (m.in_order.served s) ∙ ap (λ xs. xs ++ filter is_access (m.in_order.served s)) (no_access (stripe_in t) m.failure s (failure_is t l a m.failure m.failure_is)) ∙ m.in_order.in_order s)
 
 did_behind : (t : Spread) (ls : List Line) (parts : List (List ℕ)) (mid behind all : ℕ → List Entry) → ((s : ℕ) → mid s ≡ behind s) → AllDid t ls parts mid all → AllDid t ls parts behind all
 did_behind t [] [] mid behind all same h = λ s. h s ∙ same s

@@ -9,7 +9,6 @@ use Rattle.page_base.specs.ListSeen.{ListSeen}
 use Rattle.page_base.specs.Lanes.{Origin, LaneSeen, told_at}
 use Rattle.page_base.specs.declared.keys.RegionShape.{RegionShape}
 use Rattle.page_base.specs.declared.layout.Layout.{Layout}
-use Rattle.page_model.specs.Setups.{IsLaneOf}
 use Rattle.page_model.specs.Setups as setups
 use Rattle.stripe_core.specs.Configs.{CanMake}
 use Rattle.store_trait.specs.Memory.{memory_origin}
@@ -17,7 +16,7 @@ use Rattle.serial_pager.specs.declared.pager.PagerConfig.{PagerConfig}
 use Rattle.serial_pager.specs.Pagers.{config_of, CanOpen, rows_by}
 use Rattle.workload_text.specs.Grammar.{Region}
 use Rattle.script_run.specs.Contents.{no_lane, pages_in}
-use Rattle.script_run.specs.Fits.{FitLanes, AreInRange, share_of, shares_of, row_shares, page_counts}
+use Rattle.script_run.specs.Fits.{FitLanes, AreInRange, share_of, row_shares, page_counts}
 use Rattle.script_run.specs.FitsSerial.{lane_at}
 use Rattle.script_run.specs.InsideRunning.{shape_of}
 use Rattle.script_run.specs.declared.settings.Settings.{Settings}

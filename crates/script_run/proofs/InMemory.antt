@@ -5,7 +5,7 @@ use Rattle.std.proofs.lemmas.Bool.{cases_Bool, and_from, eq-eqb, lt-ltb}
 use Rattle.std.proofs.lemmas.Nat.{mod_below}
 use Rattle.std.proofs.lemmas.Option.{get_or_from_slice_get}
 use Rattle.page_base.specs.ListSeen.{ListSeen}
-use Rattle.page_base.specs.Lanes.{Origin, LaneSeen, Rose, told_at}
+use Rattle.page_base.specs.Lanes.{Origin, LaneSeen, told_at}
 use Rattle.page_base.specs.Lanes as lanes
 use Rattle.page_base.specs.Pages.{stripe_of}
 use Rattle.page_base.specs.declared.keys.Key.{Key}
@@ -13,13 +13,13 @@ use Rattle.page_base.specs.declared.layout.Layout.{Layout}
 use Rattle.store_trait.specs.Memory.{memory_origin, page_bytes}
 use Rattle.store_trait.specs.MemLanes.{lane_origin, lane_seen}
 use Rattle.store_trait.specs.declared.mem_lane.MemLane.{MemLane}
-use Rattle.workload_text.specs.Line.{Line, map_line, script_line, load_line, store_line, prefetch_line, flush_line, unmap_line}
+use Rattle.workload_text.specs.Line.{Line, load_line, store_line}
 use Rattle.workload_text.specs.Grammar.{Region}
 use Rattle.workload_text.specs.Accepted.{AllFit, regions_of}
 use Rattle.script_run.specs.Serial.{serial_text}
 use Rattle.script_run.specs.Contents.{no_lane, rows_in, pages_in, contents_of}
 use Rattle.script_run.specs.Fits.{FitLanes, share_of, page_counts}
-use Rattle.script_run.specs.Replies.{Reply, nothing, begun, loaded, ok, unmapped, fault, spent, is_fault_reply}
+use Rattle.script_run.specs.Replies.{Reply, fault, is_fault_reply}
 use Rattle.flat_lines.specs.Spreads.{Spread, stripe_in}
 use Rattle.script_run.specs.FitsSerial.{spread_of, lane_at, region_is_told, StoresTo, AnyStoresTo, MayAnswer, AllAnswer, left, fault_count_in, counts_named, Rising, CountsFit, last_count, EndSeen, FitsSerial}
 use Rattle.script_run.specs.FitsLaws.{AllTold}
@@ -36,12 +36,7 @@ AllKnown gs (a ∷ more) = AllKnown gs more
 
 stores_known : (gs : List Region) (z : ℕ) (k : Key) (l : Line) → AllFit gs (l ∷ []) → StoresTo z k l → k.region < length gs
 stores_known gs z k (store_line r off bytes) fit s = subst (λ n. n < length gs) (sym s.0) fit.0.range.known
-stores_known gs z k (map_line name backing size writable) fit s = absurd s
-stores_known gs z k (script_line name) fit s = absurd s
-stores_known gs z k (load_line r off len) fit s = absurd s
-stores_known gs z k (prefetch_line r off len) fit s = absurd s
-stores_known gs z k flush_line fit s = absurd s
-stores_known gs z k (unmap_line r) fit s = absurd s
+stores_known gs z k l fit s = absurd s
 
 module _ (gs : List Region) (t : Spread) (told : ℕ → Bool) where
   abbrev KnownIn : List Line → Type 0
@@ -59,11 +54,7 @@ module _ (gs : List Region) (t : Spread) (told : ℕ → Bool) where
     | inl e ↦ subst (λ n. n < length gs) (sym (ap (λ (j : Key). j.region) e)) fit.0.range.known
     | inr more ↦ all k more.1
   ]
-  fault_known lines regions (map_line name backing size writable) k count done fit all m = absurd m
-  fault_known lines regions (script_line name) k count done fit all m = absurd m
-  fault_known lines regions (prefetch_line r off len) k count done fit all m = absurd m
-  fault_known lines regions flush_line k count done fit all m = absurd m
-  fault_known lines regions (unmap_line r) k count done fit all m = absurd m
+  fault_known lines regions l k count done fit all m = absurd m
 
   pub all_known : (before : List Line) (regions : List (List ℕ)) (lines : List Line) (replies : List Reply) → AllFit gs lines → KnownIn before → AllAnswer t told before regions lines replies → AllKnown gs replies
   all_known before regions [] [] fit all m = tt
@@ -73,12 +64,7 @@ module _ (gs : List Region) (t : Spread) (told : ℕ → Bool) where
     fault_known (l ∷ before) regions l k count done (fit.0, tt) (known_more before l (fit.0, tt) all) m.0,
     all_known (l ∷ before) (left regions l (fault k count done)) ls more fit.1 (known_more before l (fit.0, tt) all) m.1,
   )
-  all_known before regions (l ∷ ls) (nothing ∷ more) fit all m = all_known (l ∷ before) (left regions l nothing) ls more fit.1 (known_more before l (fit.0, tt) all) m.1
-  all_known before regions (l ∷ ls) (begun name ∷ more) fit all m = all_known (l ∷ before) (left regions l (begun name)) ls more fit.1 (known_more before l (fit.0, tt) all) m.1
-  all_known before regions (l ∷ ls) (loaded bytes ∷ more) fit all m = all_known (l ∷ before) (left regions l (loaded bytes)) ls more fit.1 (known_more before l (fit.0, tt) all) m.1
-  all_known before regions (l ∷ ls) (ok ∷ more) fit all m = all_known (l ∷ before) (left regions l ok) ls more fit.1 (known_more before l (fit.0, tt) all) m.1
-  all_known before regions (l ∷ ls) (unmapped ∷ more) fit all m = all_known (l ∷ before) (left regions l unmapped) ls more fit.1 (known_more before l (fit.0, tt) all) m.1
-  all_known before regions (l ∷ ls) (spent ∷ more) fit all m = all_known (l ∷ before) (left regions l spent) ls more fit.1 (known_more before l (fit.0, tt) all) m.1
+  all_known before regions (l ∷ ls) (a ∷ more) fit all m = all_known (l ∷ before) (left regions l a) ls more fit.1 (known_more before l (fit.0, tt) all) m.1
 
 -- ---- where no count is named, there is no fault
 
@@ -90,12 +76,7 @@ none_named gs t [] some known none = refl
 none_named gs t (fault k count done ∷ more) some known none =
     let e : (count ∷ []) ++ counts_named t (stripe_in t k) k.region more ≡ [] = ap (λ ns. ns ++ counts_named t (stripe_in t k) k.region more) (sym (names_one t k count done)) ∙ none (stripe_in t k) k.region (mod_below (k.region + k.page / t.group_of k.region) t.stripes some) known.0 in
     absurd (cc)
-none_named gs t (nothing ∷ more) some known none = none_named gs t more some known none
-none_named gs t (begun name ∷ more) some known none = none_named gs t more some known none
-none_named gs t (loaded bytes ∷ more) some known none = none_named gs t more some known none
-none_named gs t (ok ∷ more) some known none = none_named gs t more some known none
-none_named gs t (unmapped ∷ more) some known none = none_named gs t more some known none
-none_named gs t (spent ∷ more) some known none = none_named gs t more some known none
+none_named gs t (a ∷ more) some known none = none_named gs t more some known none
 
 last_some : (n : ℕ) (ns : List ℕ) → 1 ≤ n → Rising n ns → 1 ≤ last_count n ns
 last_some n [] some rising = some

@@ -3,14 +3,15 @@ pub mod Streaming
 pub mod Contents
 pub mod Pieces
 pub mod Texts
-pub mod Accesses
 pub mod Openings
 pub mod Zeros
 pub mod Shapes
 pub mod FittedLanes
+pub mod ToldPages
+pub mod Starts
 pub mod OpenedOn
 pub mod EndedOn
-pub mod SerialFits
+pub mod ReadOnly
 pub mod Journaled
 pub mod InMemory
 pub mod Counted
@@ -27,3 +28,7 @@ pub mod Allowed
 pub mod Tabled
 pub mod RegionRules
 pub mod DidLines
+pub mod Raised
+pub mod NamedCounts
+pub mod Answered
+pub mod FromJournals

@@ -1,17 +1,14 @@
 -- Small facts on lists, on pages laid one after another, and on what is read of a lane.
-use Rattle.std.proofs.Common.{◌≡◌, ℕ, zero, suc, ◌+◌, ◌*◌, ◌-◌, ◌<◌, ◌≤◌, true, List, [], ◌∷◌, ◌++◌, length, take, drop, Option, Some, None, slice_get, slice_set, refl, sym, ap, ◌∙◌, arith, rules}
+use Rattle.std.proofs.Common.{◌≡◌, ℕ, suc, ◌+◌, ◌*◌, ◌-◌, ◌<◌, ◌≤◌, true, List, [], ◌∷◌, ◌++◌, length, Some, None, slice_get, refl, sym, ap, ◌∙◌, arith, rules}
 use Rattle.std.proofs.lemmas.Bool.{cond-true}
 use Rattle.std.proofs.lemmas.List.{places, same_lists}
 use Rattle.std.proofs.lemmas.Nat.{mul-le}
 use Rattle.std.proofs.Math.Nat.{add-sub_cancel_left}
-use Rattle.page_base.specs.Lanes.{Origin, LaneSeen, has_page, told_at}
-use Rattle.page_model.specs.Core.{Core}
-use Rattle.page_model.specs.Readers.{IsHere}
-use Rattle.serial_pager.specs.Holdings.{count_of_place, count_of_region, count_at}
+use Rattle.page_base.specs.Lanes.{Origin, has_page, told_at}
 use Rattle.store_trait.specs.Memory.{page_bytes, told_by}
 use Rattle.store_trait.specs.WholePages.{told_at-told_by}
 
-some_is : {A : Type 0} {x y : A} → Some x ≡ Some y → x ≡ y
+pub some_is : {A : Type 0} {x y : A} → Some x ≡ Some y → x ≡ y
 some_is e = cc
 
 -- lists with the same items at all places are one
@@ -36,7 +33,3 @@ page_of-appended size row xs ys e f = rw (add-sub_cancel_left (row * size) size)
 -- what a lane tells of a page that it has
 pub told_of_page : (o : Origin) (f : ℕ → List ℕ) (p : ℕ) → has_page o p ≡ true → told_at (told_by o f) p ≡ Some (f p)
 told_of_page o f p h = told_at-told_by o f p ∙ cond-true (has_page o p) (Some (f p)) None h
-
--- the count of a lane that is at home
-pub count_here : (c : Core) (r : ℕ) (lane : LaneSeen) → IsHere c r lane → count_at c r ≡ lane.count
-count_here c r lane here = ap count_of_region here.is ∙ ap count_of_place here.home

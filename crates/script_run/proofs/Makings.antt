@@ -1,21 +1,18 @@
 -- What stripes made, one stretch after another.
-use Rattle.std.proofs.Common.{◌≡◌, inl, inr, ℕ, ◌≤◌, ◌==◌, Bool, true, false, cond, eqb, List, [], ◌∷◌, ◌++◌, length, reverse, take, drop, Option, Some, None, slice_get, refl, sym, ap, subst, ◌∙◌, arith, append_assoc, append-nil, length-append, length-drop}
-use Rattle.std.specs.List.{filter, list_all, sum_by}
+use Rattle.std.proofs.Common.{◌≡◌, inl, inr, ℕ, ◌≤◌, ◌==◌, Bool, true, false, cond, eqb, List, [], ◌∷◌, ◌++◌, length, reverse, Option, Some, None, refl, sym, ap, subst, ◌∙◌, arith, append_assoc, append-nil, length-append}
+use Rattle.std.specs.List.{filter, list_all}
 use Rattle.std.proofs.lemmas.Bool.{cases_Bool, cases_eq, and_parts, and_from, eqb-true, eq-eqb}
-use Rattle.std.proofs.lemmas.List.{map-append, reverse-append, take-append-le, drop-append-le, drop-drop, take_all}
-use Rattle.std.proofs.Math.Seq.{drop-append_seam}
+use Rattle.std.proofs.lemmas.List.{map-append, reverse-append}
 use Rattle.std.proofs.lemmas.List.Elements.{filter-append}
 use Rattle.std.proofs.lemmas.List.Folds.{list_all-append}
-use Rattle.std.proofs.lemmas.List.Sums.{sum_by-cons}
 use Rattle.std.proofs.lemmas.Option.{slice_get_within}
 use Rattle.histories.specs.Histories.{History, by}
 use Rattle.page_base.specs.declared.keys.Key.{Key}
 use Rattle.page_base.specs.declared.keys.Why.{Why}
 use Rattle.page_model.specs.declared.entry.Entry.{Entry}
-use Rattle.page_model.specs.declared.entry.Entry.TheVariants.{Load, Save, Raised, StartRead, Filled, Opened, Dropped, ReadFailed, WriteFailed, StartWrite, Evicted, Written, Hint, Closing, Unmapped}
+use Rattle.page_model.specs.declared.entry.Entry.TheVariants.{Load, Save, ReadFailed, WriteFailed, Hint}
 use Rattle.page_model.specs.Entries.{key_of, is_access}
 use Rattle.page_model.specs.Stands.{StandsFor}
-use Rattle.page_base.specs.declared.keys.Piece.{Piece}
 use Rattle.serial_pager.specs.Seen.{StripeSeen}
 use Rattle.serial_pager.specs.declared.fault.PageFault.{PageFault}
 use Rattle.serial_pager.specs.Accesses.{serves}
@@ -23,7 +20,6 @@ use Rattle.serial_pager.specs.Goings.{Went}
 use Rattle.serial_pager.specs.Pagers.{PagerSeen, IsSame, PieceFails, WentAll, WentToIn, made_in, stripe_at}
 use Rattle.script_run.proofs.FittedLanes.{there}
 use Rattle.script_run.specs.LineEntries.{Fails, MakesInOrder}
-use Rattle.page_model.specs.Pieces.{accesses_by, loads}
 use Rattle.page_model.specs.Entries.{lies_in, of_stripe}
 use Rattle.script_run.specs.InsideRanges.{GoesBy}
 use Rattle.script_run.proofs.Ranged.{same_stripe}
@@ -68,19 +64,8 @@ module _ {J : Type 0} (has_noted : J → History Entry → Type 0) where
 serves_quiet : (k : Key) (reasons : Why → Bool) (e : Entry) → serves k reasons e ≡ true → is_access e ≡ false
 serves_quiet k reasons (Load j place bytes) h = absurd (cc)
 serves_quiet k reasons (Save j place bytes) h = absurd (cc)
-serves_quiet k reasons (Raised j why) h = refl
-serves_quiet k reasons (StartRead j) h = refl
-serves_quiet k reasons (Filled j) h = refl
-serves_quiet k reasons (Opened j) h = refl
-serves_quiet k reasons (Dropped j) h = refl
-serves_quiet k reasons (ReadFailed j n) h = refl
-serves_quiet k reasons (WriteFailed j n) h = absurd (cc)
-serves_quiet k reasons (StartWrite j why) h = refl
-serves_quiet k reasons (Evicted j why) h = refl
-serves_quiet k reasons (Written j at bytes) h = refl
 serves_quiet k reasons (Hint j answer) h = absurd (cc)
-serves_quiet k reasons (Closing r) h = absurd (cc)
-serves_quiet k reasons (Unmapped r) h = absurd (cc)
+serves_quiet k reasons e h = refl
 
 pub none_accessed : (k : Key) (reasons : Why → Bool) (es : List Entry) → list_all (serves k reasons) es ≡ true → filter is_access es ≡ []
 none_accessed k reasons [] h = refl

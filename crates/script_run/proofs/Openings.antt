@@ -6,7 +6,7 @@ use Rattle.std.proofs.lemmas.Nat.{div-add-mod'}
 use Rattle.page_base.specs.Backings.{in_memory, in_file, in_files}
 use Rattle.page_base.specs.Lanes.{Origin}
 use Rattle.store_trait.specs.Memory.{memory_origin}
-use Rattle.workload_text.specs.Line.{Line, map_line, script_line, load_line, store_line, prefetch_line, flush_line, unmap_line}
+use Rattle.workload_text.specs.Line.{Line, map_line}
 use Rattle.workload_text.specs.Grammar.{Region, size_at}
 use Rattle.workload_text.specs.Accepted.{AllFit, regions_of}
 use Rattle.workload_text.specs.Built.{is_in_memory}
@@ -35,12 +35,7 @@ sizes_kept gs (map_line name in_memory size writable ∷ ls) fit zero = omega (a
 sizes_kept gs (map_line name (in_file path) size writable ∷ ls) fit zero = fit.0.most
 sizes_kept gs (map_line name (in_files path file) size writable ∷ ls) fit zero = fit.0.most
 sizes_kept gs (map_line name backing size writable ∷ ls) fit (suc r) = sizes_kept gs ls fit.1 r
-sizes_kept gs (script_line name ∷ ls) fit r = sizes_kept gs ls fit.1 r
-sizes_kept gs (load_line q off len ∷ ls) fit r = sizes_kept gs ls fit.1 r
-sizes_kept gs (store_line q off bytes ∷ ls) fit r = sizes_kept gs ls fit.1 r
-sizes_kept gs (prefetch_line q off len ∷ ls) fit r = sizes_kept gs ls fit.1 r
-sizes_kept gs (flush_line ∷ ls) fit r = sizes_kept gs ls fit.1 r
-sizes_kept gs (unmap_line q ∷ ls) fit r = sizes_kept gs ls fit.1 r
+sizes_kept gs (l ∷ ls) fit r = sizes_kept gs ls fit.1 r
 
 -- no region in memory is large
 pub sizes_small : (gs : List Region) (ls : List Line) → is_in_memory ls ≡ true → AllFit gs ls → (r : ℕ) → size_at (regions_of ls) r ≤ 16777216
@@ -49,9 +44,4 @@ sizes_small gs (map_line name in_memory size writable ∷ ls) memory fit zero = 
 sizes_small gs (map_line name in_memory size writable ∷ ls) memory fit (suc r) = sizes_small gs ls memory fit.1 r
 sizes_small gs (map_line name (in_file path) size writable ∷ ls) memory fit r = absurd (cc memory)
 sizes_small gs (map_line name (in_files path file) size writable ∷ ls) memory fit r = absurd (cc memory)
-sizes_small gs (script_line name ∷ ls) memory fit r = sizes_small gs ls memory fit.1 r
-sizes_small gs (load_line q off len ∷ ls) memory fit r = sizes_small gs ls memory fit.1 r
-sizes_small gs (store_line q off bytes ∷ ls) memory fit r = sizes_small gs ls memory fit.1 r
-sizes_small gs (prefetch_line q off len ∷ ls) memory fit r = sizes_small gs ls memory fit.1 r
-sizes_small gs (flush_line ∷ ls) memory fit r = sizes_small gs ls memory fit.1 r
-sizes_small gs (unmap_line q ∷ ls) memory fit r = sizes_small gs ls memory fit.1 r
+sizes_small gs (l ∷ ls) memory fit r = sizes_small gs ls memory fit.1 r

@@ -1,13 +1,8 @@
--- A piece of a page is a piece of its region.
-use Rattle.std.proofs.Common.{◌≡◌, ℕ, ◌+◌, ◌*◌, ◌≤◌, List, ◌++◌, length, take, drop, refl, ap, ◌∙◌, arith, rules}
-use Rattle.std.proofs.lemmas.List.{places, same_lists, drop-drop}
+-- Bytes written over a part of a list.
+use Rattle.std.proofs.Common.{◌≡◌, ℕ, ◌+◌, ◌≤◌, List, ◌++◌, length, take, drop, refl, ap, ◌∙◌, arith}
+use Rattle.std.proofs.lemmas.List.{places, drop-drop}
 use borrow.Rule.Slice.PartMut.{put_mid}
 use Rattle.page_base.specs.ListSeen.{spliced}
-use Rattle.store_trait.specs.Memory.{page_bytes}
-
--- reading a piece of a page
-pub take_of_page : (size p place n : ℕ) (xs : List ℕ) → place + n ≤ size → p * size + (place + n) ≤ length xs → take n (drop place (page_bytes size xs p)) ≡ take n (drop (p * size + place) xs)
-take_of_page size p place n xs fits inside = same_lists _ _ (search (rules, places)) (λ k d h. grind (arith, places))
 
 -- what a write to a part of a page leaves
 pub put_of_mid : (xs ys zs : List ℕ) (a k : ℕ) → ys ≡ zs → k ≡ length zs → put_mid a k xs ys ≡ spliced xs a zs

@@ -16,12 +16,11 @@ use Rattle.workload_text.specs.declared.workload.MapLine.{MapLine}
 use Rattle.script_run.specs.Replies.{nothing}
 use Rattle.flat_lines.specs.Spreads.{Spread}
 use Rattle.script_run.specs.InsideRanges.{pages_at}
-use Rattle.script_run.specs.InsideRunning.{IsShaped, MayRun, behind, Ran}
+use Rattle.script_run.specs.InsideRunning.{IsShaped, MayRun, Ran}
 use Rattle.script_run.specs.declared.replies.Replies.{Replies}
 use Rattle.script_run.proofs.Makings.{all_none}
 use Rattle.script_run.proofs.Ranged.{same_pages, goes_none}
 use Rattle.script_run.proofs.RanLines.{ran_none, ran_more, ran_one, makes_none, rooms-append, bytes-append, commands-append}
-use Rattle.script_run.proofs.RanOne.{shows_same, counts_same}
 
 AllFit-split : (gs : List Region) (xs ys : List Line) → AllFit gs (xs ++ ys) → AllFit gs xs × AllFit gs ys
 AllFit-split gs [] ys h = (tt, h)
@@ -57,8 +56,8 @@ module _ {J : Type 0} (t : Spread) (gs : List Region) where
   }
 
 module _ {J : Type 0} (has_noted : J → History Entry → Type 0) (t : Spread) (gs : List Region) where
-  pub may_rest : (before xs ys : List Line) (r0 r1 : Replies) (p q : PagerSeen J) → MayRun t gs (xs ++ ys) r0 p → Ran has_noted t gs before xs r0 r1 p q → MayRun t gs ys r1 q
-  may_rest before xs ys r0 r1 p q m ran = record {
+  pub may_rest : (xs ys : List Line) (r0 r1 : Replies) (p q : PagerSeen J) → MayRun t gs (xs ++ ys) r0 p → Ran has_noted t gs xs r0 r1 p q → MayRun t gs ys r1 q
+  may_rest xs ys r0 r1 p q m ran = record {
     built = (built-split xs ys m.built).1;
     fit = (AllFit-split gs xs ys m.fit).1;
     shaped = shaped_same t gs p q m.shaped ran.same;
@@ -76,32 +75,31 @@ module _ {J : Type 0} (has_noted : J → History Entry → Type 0) (t : Spread) 
         ∙ ap (λ (xs : List X). flat_map f (take i items) ++ flat_map f xs) (drop_more items i x below ∙ ap (λ (y : X). y ∷ drop (i + 1) items) (sym is)))
         ∙ sym (append_assoc pre (flat_map f (take i items)) (f x ++ flat_map f (drop (i + 1) items)))
 
-    pub may_item : (before : List Line) (r0 r1 : Replies) (p q : PagerSeen J) → MayRun t gs (pre ++ flat_map f items) r0 p → Ran has_noted t gs before (pre ++ flat_map f (take i items)) r0 r1 p q → MayRun t gs (f x) r1 q
-    may_item before r0 r1 p q m ran =
+    pub may_item : (r0 r1 : Replies) (p q : PagerSeen J) → MayRun t gs (pre ++ flat_map f items) r0 p → Ran has_noted t gs (pre ++ flat_map f (take i items)) r0 r1 p q → MayRun t gs (f x) r1 q
+    may_item r0 r1 p q m ran =
         may_first t gs (f x) (flat_map f (drop (i + 1) items)) r1 q
-        (may_rest before (pre ++ flat_map f (take i items)) (f x ++ flat_map f (drop (i + 1) items)) r0 r1 p q (subst (λ (ls : List Line). MayRun t gs ls r0 p) parts m) ran)
+        (may_rest (pre ++ flat_map f (take i items)) (f x ++ flat_map f (drop (i + 1) items)) r0 r1 p q (subst (λ (ls : List Line). MayRun t gs ls r0 p) parts m) ran)
 
-    pub ran_item : (before : List Line) (r0 r1 r2 : Replies) (p q z : PagerSeen J) → Ran has_noted t gs before (pre ++ flat_map f (take i items)) r0 r1 p q → Ran has_noted t gs (behind before (pre ++ flat_map f (take i items))) (f x) r1 r2 q z → Ran has_noted t gs before (pre ++ flat_map f (take (i + 1) items)) r0 r2 p z
-    ran_item before r0 r1 r2 p q z a b =
-        subst (λ (ls : List Line). Ran has_noted t gs before ls r0 r2 p z)
+    pub ran_item : (r0 r1 r2 : Replies) (p q z : PagerSeen J) → Ran has_noted t gs (pre ++ flat_map f (take i items)) r0 r1 p q → Ran has_noted t gs (f x) r1 r2 q z → Ran has_noted t gs (pre ++ flat_map f (take (i + 1) items)) r0 r2 p z
+    ran_item r0 r1 r2 p q z a b =
+        subst (λ (ls : List Line). Ran has_noted t gs ls r0 r2 p z)
         (append_assoc pre (flat_map f (take i items)) (f x)
         ∙ ap (λ (ls : List Line). pre ++ ls)
         (ap (λ (ls : List Line). flat_map f (take i items) ++ ls) (sym (append-nil (f x)))
         ∙ sym (flat_map-append f (take i items) (x ∷ []))
         ∙ ap (flat_map f) (ap (λ (y : X). take i items ++ y ∷ []) is ∙ sym (take_more items i x below))))
-        (ran_more has_noted t gs before (pre ++ flat_map f (take i items)) (f x) r0 r1 r2 p q z a b)
+        (ran_more has_noted t gs (pre ++ flat_map f (take i items)) (f x) r0 r1 r2 p q z a b)
 
   -- `map` lines say nothing
-  ran_map : (before : List Line) (m : MapLine) (r : Replies) (p : PagerSeen J) → IsShaped t gs p → Ran has_noted t gs before (region_line m ∷ []) r r p p
-  ran_map before m r p shaped =
-      ran_one has_noted t gs before (region_line m) nothing 0 r r p p (sym (append-nil r.text.items)) (omega arith) (omega arith) (omega arith) (omega arith) (or_none r.faulted)
-      (λ told regions shows. (tt, shows_same t gs p shaped told before (region_line m) regions p 0 (goes_none p) shows (λ k has. refl) (λ k e. e)))
-      (counts_same t gs p shaped p 0 (goes_none p)) (goes_none p) (omega arith) (λ s. []) (all_none has_noted p) (makes_none t (region_line m) nothing refl refl tt)
+  ran_map : (m : MapLine) (r : Replies) (p : PagerSeen J) → Ran has_noted t gs (region_line m ∷ []) r r p p
+  ran_map m r p =
+      ran_one has_noted t gs (region_line m) nothing 0 r r p p (sym (append-nil r.text.items)) (omega arith) (omega arith) (omega arith) (omega arith) (or_none r.faulted)
+      tt (goes_none p) (omega arith) (λ s. []) (all_none has_noted p) (makes_none t (region_line m) nothing refl refl tt)
     where
       or_none : (x : Bool) → x ≡ (x || false)
       or_none true = refl
       or_none false = refl
 
-  pub ran_maps : (before : List Line) (ms : List MapLine) (r : Replies) (p : PagerSeen J) → IsShaped t gs p → Ran has_noted t gs before (map region_line ms) r r p p
-  ran_maps before [] r p shaped = ran_none has_noted t gs before r p
-  ran_maps before (m ∷ ms) r p shaped = ran_more has_noted t gs before (region_line m ∷ []) (map region_line ms) r r r p p p (ran_map before m r p shaped) (ran_maps (region_line m ∷ before) ms r p shaped)
+  pub ran_maps : (ms : List MapLine) (r : Replies) (p : PagerSeen J) → Ran has_noted t gs (map region_line ms) r r p p
+  ran_maps [] r p = ran_none has_noted t gs r p
+  ran_maps (m ∷ ms) r p = ran_more has_noted t gs (region_line m ∷ []) (map region_line ms) r r r p p p (ran_map m r p) (ran_maps ms r p)

@@ -1,9 +1,6 @@
 -- One line that runs on a pager.
-use Rattle.std.proofs.Common.{◌≡◌, ◌⊎◌, inl, inr, ℕ, zero, suc, ◌+◌, ◌*◌, ◌^◌, ◌<◌, ◌≤◌, ◌||◌, ◌&&◌, ◌==◌, Bool, true, false, cond, List, [], ◌∷◌, ◌++◌, length, map, take, drop, sum, codes, set, Option, Some, None, slice_get, refl, sym, ap, subst, ◌∙◌, arith}
-use Rattle.std.proofs.lemmas.Bool.{cases_Bool, cases_eq, and_parts, eqb-true}
-use Rattle.std.proofs.lemmas.List.{get_or-set_same, get_or-set_other, length-set, length-map}
-use Rattle.page_base.specs.Lanes.{Rose}
-use Rattle.page_base.specs.ListSeen.{spliced}
+use Rattle.std.proofs.Common.{◌≡◌, ℕ, zero, suc, ◌+◌, ◌*◌, ◌^◌, ◌<◌, ◌≤◌, ◌||◌, Bool, true, false, List, [], ◌∷◌, ◌++◌, length, map, sum, codes, Option, Some, None, slice_get, refl, sym, ap, subst, ◌∙◌, arith}
+use Rattle.std.proofs.lemmas.List.{length-map}
 use Rattle.page_base.specs.Pages.{stripe_of}
 use Rattle.page_base.specs.declared.keys.Key.{Key}
 use Rattle.page_base.specs.declared.keys.RegionShape.{RegionShape}
@@ -13,22 +10,20 @@ use Rattle.page_model.specs.declared.entry.Entry.TheVariants.{Load, Save}
 use Rattle.serial_pager.specs.declared.fault.PageFault.{PageFault}
 use Rattle.std.proofs.lemmas.Option.{slice_get_within}
 use Rattle.region_table.specs.Pieces.{pieces_of}
-use Rattle.serial_pager.specs.Pagers.{PagerSeen, group_in, region_has_page, has_key, may_store, is_writable, stripe_at, held, owes, count_at, HoldsSame}
+use Rattle.serial_pager.specs.Pagers.{PagerSeen, group_in, region_has_page, may_store, is_writable, stripe_at}
 use Rattle.workload_text.specs.Line.{Line, script_line, load_line, store_line}
 use Rattle.workload_text.specs.Grammar.{Region, size_at, writable_at}
 use Rattle.script_run.specs.Serial.{load_reply}
 use Rattle.script_run.specs.InsideRooms.{fault_room}
 use Rattle.script_run.specs.Replies.{begun, loaded, ok, fault, reply_text}
-use Rattle.script_run.specs.FitsSerial.{StoresTo, Names, EndsAt, fault_count_in, CountsFit}
 use Rattle.script_run.specs.LineEntries.{Fails, MakesInOrder, may_make}
 use Rattle.page_model.specs.Pieces.{loads, saves, AreBefore}
-use Rattle.script_run.specs.InsideRanges.{IsRange, HoldsRegion, RangeGoesOn, FaultsAt, GoesBy, BreaksOff}
-use Rattle.script_run.specs.InsideRunning.{IsShaped, Shows, Ran, shape_of}
+use Rattle.script_run.specs.InsideRanges.{IsRange, RangeGoesOn, FaultsAt, GoesBy, BreaksOff}
+use Rattle.script_run.specs.InsideRunning.{IsShaped, Ran, shape_of}
 use Rattle.script_run.specs.declared.replies.Replies.{Replies}
-use Rattle.script_run.proofs.Ranged.{region_kept, region_kept_in, goes_none}
+use Rattle.script_run.proofs.Ranged.{goes_none}
 use Rattle.script_run.proofs.Makings.{all_none, order_same}
 use Rattle.script_run.proofs.RanLines.{ran_one, makes_none}
-use Rattle.flat_lines.specs.FlatRegions.{bytes_at}
 use Rattle.flat_lines.specs.Spreads.{Spread, stripe_in, piece_key}
 
 -- ---- the shape of a pager
@@ -62,70 +57,6 @@ module _ {J : Type 0} (t : Spread) (gs : List Region) (p : PagerSeen J) (shaped 
     few = omega (arith, short, few);
   }
 
-  -- ---- what is shown behind a line
-
-  module _ (told : ℕ → Bool) (before : List Line) (l : Line) (regions : List (List ℕ)) (q : PagerSeen J) (n : ℕ) (goes : RangeGoesOn n p q) (shows : Shows t told before regions p) where
-    many : length p.shapes ≡ length q.shapes
-    many = sym (ap length goes.same.shapes)
-
-    pub shows_same : HoldsSame p q → ((k : Key) → owes q k ≡ true → owes p k ≡ true) → Shows t told (l ∷ before) regions q
-    shows_same same owed = record {
-      count = shows.count ∙ many;
-      holds = λ r below its. region_kept p q r (bytes_at regions r) goes.same same (shows.holds r (subst (λ m. r < m) (sym many) below) its);
-      owed = λ k e. inr (shows.owed k (owed k e));
-    }
-
-    pub shows_stored : (r off : ℕ) (bytes : List ℕ) → r < length p.shapes → ((k : Key) → has_key p k ≡ true → (k.region ≡ r → ⊥) → held q k ≡ held p k) → ((k : Key) → owes q k ≡ true → (owes p k ≡ true) ⊎ StoresTo t.page_size k l)
-        → ((b : List ℕ) → HoldsRegion p r b → HoldsRegion q r (spliced b off bytes)) → Shows t told (l ∷ before) (set regions r (spliced (bytes_at regions r) off bytes)) q
-    shows_stored r off bytes below others owed done = record {
-      count = length-set regions r (spliced (bytes_at regions r) off bytes) ∙ shows.count ∙ many;
-      holds = λ s under its. go s (subst (λ m. s < m) (sym many) under) its (cases_eq s r);
-      owed = λ k e. elim (owed k e) [ inl h ↦ inr (shows.owed k h) | inr h ↦ inl h ];
-    }
-      where
-        new : List ℕ
-        new = spliced (bytes_at regions r) off bytes
-
-        go : (s : ℕ) → s < length p.shapes → told s ≡ true → (s ≡ r) ⊎ (s ≡ r → ⊥) → HoldsRegion q s (bytes_at (set regions r (spliced (bytes_at regions r) off bytes)) s)
-        go s under its (inl here) =
-            subst (λ n. HoldsRegion q n (bytes_at (set regions r (spliced (bytes_at regions r) off bytes)) n)) (sym here)
-            (subst (λ b. HoldsRegion q r b) (sym (get_or-set_same regions r (spliced (bytes_at regions r) off bytes) [] (subst (λ m. r < m) (sym shows.count) below)))
-            (done (bytes_at regions r) (shows.holds r below (ap told (sym here) ∙ its))))
-        go s under its (inr other) =
-            subst (λ b. HoldsRegion q s b) (sym (get_or-set_other regions r s (spliced (bytes_at regions r) off bytes) [] other))
-            (region_kept_in p q s (bytes_at regions s) goes.same (λ k has e. others k has (λ h. other (sym e ∙ h))) (shows.holds s under its))
-
-    -- the page that a fault names
-    pub names_is : (r off len done : ℕ) (stores : Key → Type 0) (f : PageFault) → FaultsAt p q r off len stores done f → ((k : Key) → stores k → StoresTo t.page_size k l) → EndsAt t.page_size off len done × Names t (l ∷ before) r (off + done) f.key
-    names_is r off len done stores f at its = (
-      subst (λ z. EndsAt z off len done) shaped.page_size at.ends,
-      elim at.whose [
-        | inl e ↦ inl (e ∙ ap (λ z. piece_key z r (off + done)) shaped.page_size)
-        | inr more ↦ inr (
-          sym (stripe_is f.key) ∙ at.stripe ∙ stripe_is (piece_key p.page_size r (off + done)) ∙ ap (λ z. stripe_in t (piece_key z r (off + done))) shaped.page_size,
-          elim more [ inl e ↦ inr (shows.owed f.key e) | inr e ↦ inl (its f.key e) ],
-        )
-      ],
-    )
-
-  -- ---- counts
-
-  pub counts_same : (q : PagerSeen J) (n : ℕ) → RangeGoesOn n p q → (s r : ℕ) → CountsFit (count_at p s r) [] (count_at q s r)
-  counts_same q n goes s r = record { rising = tt; within = goes.counts s r }
-
-  pub counts_fault : (q : PagerSeen J) (n r off len done : ℕ) (stores : Key → Type 0) (f : PageFault) → RangeGoesOn n p q → FaultsAt p q r off len stores done f → (s g : ℕ) → CountsFit (count_at p s g) (fault_count_in t s g (fault f.key f.faults done)) (count_at q s g)
-  counts_fault q n r off len done stores f goes at s g = elim (cases_Bool (stripe_in t f.key == s && f.key.region == g)) [
-    | inl yes_ ↦
-        let parts = and_parts (stripe_in t f.key == s) (f.key.region == g) yes_ in
-        let stripe : stripe_at p f.key ≡ s = stripe_is f.key ∙ eqb-true (stripe_in t f.key) s parts.0 in
-        let region : f.key.region ≡ g = eqb-true f.key.region g parts.1 in
-        subst (λ b. CountsFit (count_at p s g) (cond b (f.faults ∷ []) []) (count_at q s g)) (sym yes_) (record {
-          rising = (subst (λ x. Rose (count_at p x g) f.faults) stripe (subst (λ x. Rose (count_at p (stripe_at p f.key) x) f.faults) region at.rose), tt);
-          within = subst (λ x. f.faults ≤ count_at q x g) stripe (subst (λ x. f.faults ≤ count_at q (stripe_at p f.key) x) region at.within);
-        })
-    | inr other ↦ subst (λ b. CountsFit (count_at p s g) (cond b (f.faults ∷ []) []) (count_at q s g)) (sym other) (counts_same q n goes s g)
-  ]
-
   -- ---- lines
 
   module _ (has_noted : J → History Entry → Type 0) where
@@ -136,24 +67,20 @@ module _ {J : Type 0} (t : Spread) (gs : List Region) (p : PagerSeen J) (shaped 
         (order_same (stripe_at p) (stripe_in t) (may_make p.page_size l) a failure made stripe_is o)
 
     -- a fault is in the stripe of its piece
-    in_stripe_is : (r off len done : ℕ) (stores : Key → Type 0) (q : PagerSeen J) (f : PageFault) → FaultsAt p q r off len stores done f → stripe_in t f.key ≡ stripe_in t (piece_key t.page_size r (off + done))
-    in_stripe_is r off len done stores q f at = sym (stripe_is f.key) ∙ at.stripe ∙ stripe_is (piece_key p.page_size r (off + done)) ∙ ap (λ z. stripe_in t (piece_key z r (off + done))) shaped.page_size
+    in_stripe_is : (r off done : ℕ) (f : PageFault) → FaultsAt p r off done f → stripe_in t f.key ≡ stripe_in t (piece_key t.page_size r (off + done))
+    in_stripe_is r off done f at = sym (stripe_is f.key) ∙ at.stripe ∙ stripe_is (piece_key p.page_size r (off + done)) ∙ ap (λ z. stripe_in t (piece_key z r (off + done))) shaped.page_size
 
-    pub ran_script : (before : List Line) (name : List ℕ) (r0 r1 : Replies) → r1.text.items ≡ r0.text.items ++ (codes "script " ++ (name ++ 10 ∷ [])) → r0.text.spare ≤ r1.text.spare + (length name + 8) → r1.loaded ≡ r0.loaded → r1.sum ≡ r0.sum → r1.faulted ≡ r0.faulted
-        → Ran has_noted t gs before (script_line name ∷ []) r0 r1 p p
-    ran_script before name r0 r1 text spare count total flag =
-        ran_one has_noted t gs before (script_line name) (begun name) 0 r0 r1 p p text spare (omega (arith, count)) (omega (arith, total)) (omega arith) (flag ∙ sym (or_none r0.faulted))
-        (λ told regions shows. (refl, shows_same told before (script_line name) regions p 0 (goes_none p) shows (λ k has. refl) (λ k e. e)))
-        (counts_same p 0 (goes_none p)) (goes_none p) (omega arith) (λ s. []) (all_none has_noted p) (makes_none t (script_line name) (begun name) refl refl tt)
+    pub ran_script : (name : List ℕ) (r0 r1 : Replies) → r1.text.items ≡ r0.text.items ++ (codes "script " ++ (name ++ 10 ∷ [])) → r0.text.spare ≤ r1.text.spare + (length name + 8) → r1.loaded ≡ r0.loaded → r1.sum ≡ r0.sum → r1.faulted ≡ r0.faulted
+        → Ran has_noted t gs (script_line name ∷ []) r0 r1 p p
+    ran_script name r0 r1 text spare count total flag =
+        ran_one has_noted t gs (script_line name) (begun name) 0 r0 r1 p p text spare (omega (arith, count)) (omega (arith, total)) (omega arith) (flag ∙ sym (or_none r0.faulted))
+        refl (goes_none p) (omega arith) (λ s. []) (all_none has_noted p) (makes_none t (script_line name) (begun name) refl refl tt)
       where
         or_none : (x : Bool) → (x || false) ≡ x
         or_none true = refl
         or_none false = refl
 
-    module _ (before : List Line) (r off : ℕ) (r0 r1 : Replies) (q : PagerSeen J) (known : r < length gs) where
-      below : r < length p.shapes
-      below = subst (λ m. r < m) (sym regions_are) known
-
+    module _ (r off : ℕ) (r0 r1 : Replies) (q : PagerSeen J) where
       or_false : (x : Bool) → x ≡ (x || false)
       or_false true = refl
       or_false false = refl
@@ -162,14 +89,13 @@ module _ {J : Type 0} (t : Spread) (gs : List Region) (p : PagerSeen J) (shaped 
       or_true true = refl
       or_true false = refl
 
-      pub ran_load : (len : ℕ) (bytes : List ℕ) → length bytes ≡ len → len ≤ 65536 → RangeGoesOn len p q → HoldsSame p q → ((k : Key) → owes q k ≡ true → owes p k ≡ true) → ((b : List ℕ) → HoldsRegion p r b → bytes ≡ take len (drop off b))
+      pub ran_load : (len : ℕ) (bytes : List ℕ) → length bytes ≡ len → len ≤ 65536 → RangeGoesOn len p q
           → r1.text.items ≡ r0.text.items ++ load_reply bytes → r0.text.spare ≤ r1.text.spare + (2 * length bytes + 6) → r1.loaded ≡ r0.loaded + length bytes → r1.sum ≡ r0.sum + sum bytes → r1.faulted ≡ r0.faulted
           → GoesBy has_noted (may_make p.page_size (load_line r off len)) (loads (pieces_of p.page_size r off len) bytes) [] p q
-          → Ran has_noted t gs before (load_line r off len ∷ []) r0 r1 p q
-      ran_load len bytes long short goes same owed is text spare count total flag by =
-          ran_one has_noted t gs before (load_line r off len) (loaded bytes) len r0 r1 p q text (omega (arith, spare, long)) count total (omega (arith, long)) (flag ∙ or_false r0.faulted)
-          (λ told regions shows. ((long, λ its. is (bytes_at regions r) (shows.holds r below its)), shows_same told before (load_line r off len) regions q len goes shows same owed))
-          (counts_same q len goes) goes (omega (arith, short)) by.made by.went
+          → Ran has_noted t gs (load_line r off len ∷ []) r0 r1 p q
+      ran_load len bytes long short goes text spare count total flag by =
+          ran_one has_noted t gs (load_line r off len) (loaded bytes) len r0 r1 p q text (omega (arith, spare, long)) count total (omega (arith, long)) (flag ∙ or_false r0.faulted)
+          tt goes (omega (arith, short)) by.made by.went
           (record {
             accesses = loads (pieces_of p.page_size r off len) bytes;
             failure = [];
@@ -179,34 +105,28 @@ module _ {J : Type 0} (t : Spread) (gs : List Region) (p : PagerSeen J) (shaped 
             in_order = made_in (load_line r off len) (loads (pieces_of p.page_size r off len) bytes) [] by.made by.in_order;
           })
 
-      pub ran_load_fault : (len done : ℕ) (f : PageFault) → len ≤ 65536 → RangeGoesOn len p q → HoldsSame p q → ((k : Key) → owes q k ≡ true → owes p k ≡ true) → FaultsAt p q r off len (λ k. ⊥) done f
+      pub ran_load_fault : (len done : ℕ) (f : PageFault) → len ≤ 65536 → RangeGoesOn len p q → FaultsAt p r off done f
           → r1.text.items ≡ r0.text.items ++ reply_text gs (fault f.key f.faults done) → r0.text.spare ≤ r1.text.spare + fault_room gs → r1.loaded ≡ r0.loaded → r1.sum ≡ r0.sum → r1.faulted ≡ true
           → (bytes : List ℕ) → length bytes ≡ done → BreaksOff has_noted (may_make p.page_size (load_line r off len)) (λ k place its. Load k place its) (pieces_of p.page_size r off len) bytes (piece_key p.page_size r (off + done)) done f p q
-          → Ran has_noted t gs before (load_line r off len ∷ []) r0 r1 p q
-      ran_load_fault len done f short goes same owed at text spare count total flag bytes long by =
-          ran_one has_noted t gs before (load_line r off len) (fault f.key f.faults done) len r0 r1 p q text (omega (arith, spare)) (omega (arith, count)) (omega (arith, total)) (omega arith) (flag ∙ or_true r0.faulted)
-          (λ told regions shows. (names_is told before (load_line r off len) regions q len goes shows r off len done (λ k. ⊥) f at (λ k h. absurd h), shows_same told before (load_line r off len) regions q len goes shows same owed))
-          (counts_fault q len r off len done (λ k. ⊥) f goes at) goes (omega (arith, short)) by.goes.made by.goes.went
+          → Ran has_noted t gs (load_line r off len ∷ []) r0 r1 p q
+      ran_load_fault len done f short goes at text spare count total flag bytes long by =
+          ran_one has_noted t gs (load_line r off len) (fault f.key f.faults done) len r0 r1 p q text (omega (arith, spare)) (omega (arith, count)) (omega (arith, total)) (omega arith) (flag ∙ or_true r0.faulted)
+          tt goes (omega (arith, short)) by.goes.made by.goes.went
           (record {
             accesses = loads by.pieces bytes;
             failure = by.failure ∷ [];
             accesses_are = (by.pieces, bytes, subst (λ z. AreBefore (pieces_of z r off len) done by.pieces) shaped.page_size by.before, long, refl);
             failure_is = (by.failure, refl, subst (λ z. Fails (piece_key z r (off + done)) f.key f.faults by.failure) shaped.page_size by.fails);
-            in_stripe = in_stripe_is r off len done (λ k. ⊥) q f at;
+            in_stripe = in_stripe_is r off done f at;
             in_order = made_in (load_line r off len) (loads by.pieces bytes) (by.failure ∷ []) by.goes.made by.goes.in_order;
           })
 
-      module _ (bytes : List ℕ) (short : length bytes ≤ 65536) (goes : RangeGoesOn (length bytes) p q) (others : (k : Key) → has_key p k ≡ true → (k.region ≡ r → ⊥) → held q k ≡ held p k) (owed : (k : Key) → owes q k ≡ true → (owes p k ≡ true) ⊎ StoresTo p.page_size k (store_line r off bytes)) where
-        owed_in : (k : Key) → owes q k ≡ true → (owes p k ≡ true) ⊎ StoresTo t.page_size k (store_line r off bytes)
-        owed_in k e = elim (owed k e) [ inl h ↦ inl h | inr h ↦ inr (subst (λ z. StoresTo z k (store_line r off bytes)) shaped.page_size h) ]
-
-        pub ran_store : ((b : List ℕ) → HoldsRegion p r b → HoldsRegion q r (spliced b off bytes))
-            → r1.text.items ≡ r0.text.items ++ codes "ok\n" → r0.text.spare ≤ r1.text.spare + 3 → r1.loaded ≡ r0.loaded → r1.sum ≡ r0.sum → r1.faulted ≡ r0.faulted
-            → GoesBy has_noted (may_make p.page_size (store_line r off bytes)) (saves (pieces_of p.page_size r off (length bytes)) bytes) [] p q → Ran has_noted t gs before (store_line r off bytes ∷ []) r0 r1 p q
-        ran_store done text spare count total flag by =
-            ran_one has_noted t gs before (store_line r off bytes) ok (length bytes) r0 r1 p q text (omega (arith, spare)) (omega (arith, count)) (omega (arith, total)) (omega arith) (flag ∙ or_false r0.faulted)
-            (λ told regions shows. (tt, shows_stored told before (store_line r off bytes) regions q (length bytes) goes shows r off bytes below others owed_in done))
-            (counts_same q (length bytes) goes) goes (omega (arith, short)) by.made by.went
+      module _ (bytes : List ℕ) (short : length bytes ≤ 65536) (goes : RangeGoesOn (length bytes) p q) where
+        pub ran_store : r1.text.items ≡ r0.text.items ++ codes "ok\n" → r0.text.spare ≤ r1.text.spare + 3 → r1.loaded ≡ r0.loaded → r1.sum ≡ r0.sum → r1.faulted ≡ r0.faulted
+            → GoesBy has_noted (may_make p.page_size (store_line r off bytes)) (saves (pieces_of p.page_size r off (length bytes)) bytes) [] p q → Ran has_noted t gs (store_line r off bytes ∷ []) r0 r1 p q
+        ran_store text spare count total flag by =
+            ran_one has_noted t gs (store_line r off bytes) ok (length bytes) r0 r1 p q text (omega (arith, spare)) (omega (arith, count)) (omega (arith, total)) (omega arith) (flag ∙ or_false r0.faulted)
+            tt goes (omega (arith, short)) by.made by.went
             (record {
               accesses = saves (pieces_of p.page_size r off (length bytes)) bytes;
               failure = [];
@@ -216,25 +136,24 @@ module _ {J : Type 0} (t : Spread) (gs : List Region) (p : PagerSeen J) (shaped 
               in_order = made_in (store_line r off bytes) (saves (pieces_of p.page_size r off (length bytes)) bytes) [] by.made by.in_order;
             })
 
-        pub ran_store_fault : (done : ℕ) (f : PageFault) → FaultsAt p q r off (length bytes) (λ k. StoresTo p.page_size k (store_line r off bytes)) done f → ((b : List ℕ) → HoldsRegion p r b → HoldsRegion q r (spliced b off (take done bytes)))
+        pub ran_store_fault : (done : ℕ) (f : PageFault) → FaultsAt p r off done f
             → r1.text.items ≡ r0.text.items ++ reply_text gs (fault f.key f.faults done) → r0.text.spare ≤ r1.text.spare + fault_room gs → r1.loaded ≡ r0.loaded → r1.sum ≡ r0.sum → r1.faulted ≡ true
-            → BreaksOff has_noted (may_make p.page_size (store_line r off bytes)) (λ k place its. Save k place its) (pieces_of p.page_size r off (length bytes)) bytes (piece_key p.page_size r (off + done)) done f p q → Ran has_noted t gs before (store_line r off bytes ∷ []) r0 r1 p q
-        ran_store_fault done f at kept text spare count total flag by =
-            ran_one has_noted t gs before (store_line r off bytes) (fault f.key f.faults done) (length bytes) r0 r1 p q text (omega (arith, spare)) (omega (arith, count)) (omega (arith, total)) (omega arith) (flag ∙ or_true r0.faulted)
-            (λ told regions shows. (names_is told before (store_line r off bytes) regions q (length bytes) goes shows r off (length bytes) done (λ k. StoresTo p.page_size k (store_line r off bytes)) f at (λ k h. subst (λ z. StoresTo z k (store_line r off bytes)) shaped.page_size h), shows_stored told before (store_line r off bytes) regions q (length bytes) goes shows r off (take done bytes) below others owed_in kept))
-            (counts_fault q (length bytes) r off (length bytes) done (λ k. StoresTo p.page_size k (store_line r off bytes)) f goes at) goes (omega (arith, short)) by.goes.made by.goes.went
+            → BreaksOff has_noted (may_make p.page_size (store_line r off bytes)) (λ k place its. Save k place its) (pieces_of p.page_size r off (length bytes)) bytes (piece_key p.page_size r (off + done)) done f p q → Ran has_noted t gs (store_line r off bytes ∷ []) r0 r1 p q
+        ran_store_fault done f at text spare count total flag by =
+            ran_one has_noted t gs (store_line r off bytes) (fault f.key f.faults done) (length bytes) r0 r1 p q text (omega (arith, spare)) (omega (arith, count)) (omega (arith, total)) (omega arith) (flag ∙ or_true r0.faulted)
+            tt goes (omega (arith, short)) by.goes.made by.goes.went
             (record {
               accesses = saves by.pieces bytes;
               failure = by.failure ∷ [];
               accesses_are = (by.pieces, subst (λ z. AreBefore (pieces_of z r off (length bytes)) done by.pieces) shaped.page_size by.before, refl);
               failure_is = (by.failure, refl, subst (λ z. Fails (piece_key z r (off + done)) f.key f.faults by.failure) shaped.page_size by.fails);
-              in_stripe = in_stripe_is r off (length bytes) done (λ k. StoresTo p.page_size k (store_line r off bytes)) q f at;
+              in_stripe = in_stripe_is r off done f at;
               in_order = made_in (store_line r off bytes) (saves by.pieces bytes) (by.failure ∷ []) by.goes.made by.goes.in_order;
             })
 
 -- the region of a fault is there
-pub fault_known : {J : Type 0} (t : Spread) (gs : List Region) (p q : PagerSeen J) (r off len done : ℕ) (stores : Key → Type 0) (f : PageFault) → IsShaped t gs p → FaultsAt p q r off len stores done f → f.key.region < length gs
-fault_known t gs p q r off len done stores f shaped at = subst (λ n. f.key.region < n) (regions_are t gs p shaped) (go (slice_get p.shapes f.key.region) refl at.page)
+pub fault_known : {J : Type 0} (t : Spread) (gs : List Region) (p : PagerSeen J) (r off done : ℕ) (f : PageFault) → IsShaped t gs p → FaultsAt p r off done f → f.key.region < length gs
+fault_known t gs p r off done f shaped at = subst (λ n. f.key.region < n) (regions_are t gs p shaped) (go (slice_get p.shapes f.key.region) refl at.page)
   where
     go : (o : Option RegionShape) → slice_get p.shapes f.key.region ≡ o → region_has_page o f.key.page ≡ true → f.key.region < length p.shapes
     go None e h = absurd (cc)

@@ -1,7 +1,6 @@
 -- Lanes that tell the bytes of a region: what they hold, and that a run leaves them telling.
-use Rattle.std.proofs.Common.{◌≡◌, ℕ, ◌+◌, ◌*◌, ◌/◌, ◌%◌, ◌<◌, ◌≤◌, Bool, true, List, [], ◌∷◌, length, map, get_or, Option, Some, is_some, slice_get, refl, sym, ap, subst, ◌∙◌, arith}
+use Rattle.std.proofs.Common.{◌≡◌, ℕ, ◌+◌, ◌*◌, ◌/◌, ◌%◌, ◌<◌, ◌≤◌, true, List, [], ◌∷◌, length, map, get_or, Option, Some, is_some, refl, sym, ap, ◌∙◌, arith}
 use Rattle.std.specs.Option.{unwrap_or}
-use Rattle.std.proofs.lemmas.Bool.{and_from, eq-eqb, lt-ltb}
 use Rattle.std.proofs.lemmas.List.{length-map, take_all}
 use Rattle.std.proofs.lemmas.Nat.{mod_below}
 use Rattle.std.proofs.lemmas.Option.{get_or_from_slice_get}
@@ -10,13 +9,9 @@ use Rattle.histories.specs.Histories.{History}
 use Rattle.page_base.specs.Lanes.{Origin, LaneSeen, told_at}
 use Rattle.page_base.specs.Pages.{stripe_of}
 use Rattle.page_base.specs.declared.layout.Layout.{Layout}
-use Rattle.page_base.specs.declared.keys.Key.{Key}
 use Rattle.page_base.specs.declared.keys.RegionShape.{RegionShape}
 use Rattle.page_model.specs.declared.entry.Entry.{Entry}
 use Rattle.page_model.specs.Core.{Home}
-use Rattle.page_model.specs.Setups as setups
-use Rattle.page_model.specs.Setups.{Setup}
-use Rattle.page_model.specs.Stands as stands
 use Rattle.page_model.specs.Stands.{HomeLane, PlaceStands}
 use Rattle.store_trait.specs.Memory.{page_bytes}
 use Rattle.workload_text.specs.Grammar.{Region, size_at}
@@ -32,8 +27,9 @@ use Rattle.script_run.proofs.Contents.{joined-same, length-joined, page_of-joine
 use Rattle.script_run.proofs.Zeros.{joined-page_of}
 use Rattle.script_run.proofs.Openings.{sizes_whole}
 use Rattle.script_run.proofs.InMemory.{from_range}
-use Rattle.script_run.proofs.FittedLanes.{there, shape_at, pages_fit, some_row, AreWholeRows}
-use Rattle.script_run.proofs.OpenedOn.{told_page, pages_whole, region_is}
+use Rattle.script_run.proofs.FittedLanes.{pages_fit, AreWholeRows}
+use Rattle.script_run.proofs.Starts.{has_it, base_is}
+use Rattle.script_run.proofs.ToldPages.{told_page, pages_whole, region_is}
 
 -- the stripe of a page
 one_group : (rows_len stripes region p : ℕ) → rows_len ≡ stripes → stripe_of rows_len 1 region p ≡ (region + p) % stripes
@@ -74,14 +70,14 @@ module _ (layout : Layout) (gs : List Region) (rows : List (List LaneSeen)) (fit
   -- lanes that tell a region tell what they hold
   pub tells_whole : AreWholeRows rows → region_is_told rows r ≡ true → TellsWhole (spread_of layout) gs rows r
   tells_whole whole its =
-      let pages = pages_whole layout gs rows fit whole r known its in
-      let are = region_is layout gs rows fit whole r known its in
+      let pages = pages_whole layout gs rows fit r known its whole in
+      let are = region_is layout gs rows fit r known its in
       let long : length (bytes_at (contents_of rows) r) ≡ size_at gs r = ap length are ∙ length-joined layout.page_size n (page_told rows r) pages ∙ size_is in
       record {
         size = long;
         pages = λ p below.
             let inside : p < n = omega (arith, below, pages_are (bytes_at (contents_of rows) r) long) in
-            let t = told_page layout gs rows fit whole r known its p inside in
+            let t = told_page layout gs rows fit r known its p inside in
             ap (λ s. told_at (lane_at rows s r).told p) (sym (one_group (length rows) layout.stripes r p fit.stripes))
             ∙ ap (λ (ls : List LaneSeen). told_at (get_or ls r no_lane).told p) (get_or_from_slice_get rows (stripe_of (length rows) 1 r p) t.row [] t.at)
             ∙ ap (λ (l : LaneSeen). told_at l.told p) (get_or_from_slice_get t.row r t.lane no_lane t.here)
@@ -128,24 +124,10 @@ module _ (c : Settings) (gs : List Region) (rows ends : List (List LaneSeen)) (f
     where
       one : (page : ℕ) → page < get_or (page_counts c.layout.page_size gs) r 0 → is_some (told_at (lane_at ends (stripe_of (length ends) 1 r page) r).told page) ≡ true
       one page below =
-          let s : ℕ = stripe_of (length rows) 1 r page in
-          let s_below : s < length rows = mod_below (r + page / 1) (length rows) (some_row c.layout gs rows fit) in
-          let k : Key = record { region = r; page = page } in
-          let u : Setup = setup_at c shapes rows s in
-          let lane : HomeLane u (made s) r (lane_at ends s r) = (home s r (omega (arith, s_below, fit.stripes)) known).1 in
-          let t = told_page c.layout gs rows fit whole r known its page below in
-          let shape = there (map (shape_of c.layout.page_size) gs) r (omega (arith, known, length-map gs (shape_of c.layout.page_size))) in
-          let is = shape_at c.layout.page_size gs r shape.0 shape.1 in
-          let has : setups.has_page u k ≡ true =
-          ap (λ (ss : List RegionShape). setups.is_page_of u (slice_get ss r) k) are
-          ∙ ap (λ (o : Option RegionShape). setups.is_page_of u o k) shape.1
-          ∙ and_from _ _ (lt-ltb page shape.0.pages (omega (arith, below, is.pages)))
-          (eq-eqb _ _ (ap (λ g. stripe_of c.layout.stripes g r page) is.group ∙ ap (λ m. stripe_of m 1 r page) (sym fit.stripes))) in
-          let told_ : setups.is_told u k ≡ true =
-          ap (λ (ls : List LaneSeen). is_some (setups.told_in (slice_get ls r) page)) (get_or_from_slice_get rows s t.row [] t.at)
-          ∙ ap (λ (o : Option LaneSeen). is_some (setups.told_in o page)) t.here
-          ∙ ap is_some t.tells in
-          ap (λ m. is_some (told_at (lane_at ends (stripe_of m 1 r page) r).told page)) as_many ∙ lane.told page has told_
+          let s : ℕ = stripe_of c.layout.stripes 1 r page in
+          let lane : HomeLane (setup_at c shapes rows s) (made s) r (lane_at ends s r) = (home s r (mod_below (r + page / 1) c.layout.stripes (omega (arith, c.layout.some_stripe))) known).1 in
+          ap (λ m. is_some (told_at (lane_at ends (stripe_of m 1 r page) r).told page)) (as_many ∙ fit.stripes)
+          ∙ lane.told page (has_it c gs rows fit shapes r known page below are) (ap is_some (base_is c gs rows fit shapes r known page below its))
 
   pub stay_told : StayTold (spread_of c.layout) gs rows ends
   stay_told r known its = tells_whole c.layout gs ends fit_ends r known end_whole (still r known its)

@@ -15,7 +15,7 @@ use Rattle.page_base.specs.declared.layout.Layout.{Layout}
 use Rattle.store_trait.specs.Memory.{memory_origin, page_bytes}
 use Rattle.store_trait.specs.MemLanes.{lane_seen, AreLanesOf}
 use Rattle.store_trait.specs.declared.mem_lane.MemLane.{MemLane}
-use Rattle.workload_text.specs.Line.{Line, map_line, script_line, load_line, store_line, prefetch_line, flush_line, unmap_line}
+use Rattle.workload_text.specs.Line.{Line, map_line}
 use Rattle.workload_text.specs.Grammar.{Region, size_at}
 use Rattle.workload_text.specs.Accepted.{AllFit, regions_of}
 use Rattle.workload_text.specs.Built.{is_in_memory}
@@ -71,12 +71,7 @@ sized z gs (map_line name in_memory size writable ∷ ls) memory fit zero below 
 sized z gs (map_line name in_memory size writable ∷ ls) memory fit (suc r) below = sized z gs ls memory fit.1 r (omega arith)
 sized z gs (map_line name (in_file path) size writable ∷ ls) memory fit r below = absurd (cc memory)
 sized z gs (map_line name (in_files path file) size writable ∷ ls) memory fit r below = absurd (cc memory)
-sized z gs (script_line name ∷ ls) memory fit r below = sized z gs ls memory fit.1 r below
-sized z gs (load_line q off len ∷ ls) memory fit r below = sized z gs ls memory fit.1 r below
-sized z gs (store_line q off bytes ∷ ls) memory fit r below = sized z gs ls memory fit.1 r below
-sized z gs (prefetch_line q off len ∷ ls) memory fit r below = sized z gs ls memory fit.1 r below
-sized z gs (flush_line ∷ ls) memory fit r below = sized z gs ls memory fit.1 r below
-sized z gs (unmap_line q ∷ ls) memory fit r below = sized z gs ls memory fit.1 r below
+sized z gs (l ∷ ls) memory fit r below = sized z gs ls memory fit.1 r below
 
 whole_at : (z : ℕ) (gs : List Region) → has_whole_pages z gs ≡ true → (r : ℕ) → r < length gs → size_at gs r ≡ size_at gs r / z * z
 whole_at z [] pages r below = absurd (omega arith)

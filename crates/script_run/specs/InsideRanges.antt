@@ -1,23 +1,19 @@
 -- Ranges of a region's bytes on a pager: what a load or a store of one asks for, what it makes, and how it fails.
-use Rattle.std.specs.Prelude.{◌≡◌, ℕ, ◌+◌, ◌*◌, ◌^◌, ◌<◌, ◌≤◌, ◌⊎◌, Bool, true, List, [], ◌∷◌, length, take, drop, slice_get, slice_index, Some}
+use Rattle.std.specs.Prelude.{◌≡◌, ℕ, ◌+◌, ◌*◌, ◌^◌, ◌<◌, ◌≤◌, Bool, true, List, [], ◌∷◌, length, slice_get, slice_index}
 use Rattle.page_base.specs.declared.keys.Key.{Key}
-use Rattle.page_base.specs.Lanes.{Rose}
 use Rattle.histories.specs.Histories.{History}
 use Rattle.page_model.specs.declared.entry.Entry.{Entry}
 use Rattle.page_model.specs.Setups.{pages_of}
 use Rattle.page_base.specs.declared.keys.Piece.{Piece}
 use Rattle.region_table.specs.Regions.{TableSeen, lengths_of}
-use Rattle.store_trait.specs.Memory.{page_bytes}
 use Rattle.serial_pager.specs.declared.fault.PageFault.{PageFault}
-use Rattle.serial_pager.specs.Pagers.{PagerSeen, has_key, stripe_at, held, owes, count_at, IsSame, CountsGrow, WentAll}
-use Rattle.script_run.specs.FitsSerial.{StoresTo, EndsAt}
+use Rattle.serial_pager.specs.Pagers.{PagerSeen, has_key, stripe_at, IsSame, WentAll}
 use Rattle.script_run.specs.LineEntries.{Fails, MakesInOrder, may_make}
-use Rattle.page_base.specs.ListSeen.{spliced}
 use Rattle.page_model.specs.declared.entry.Entry.TheVariants.{Load, Save}
 use Rattle.page_model.specs.Pieces.{AreBefore, accesses_by, loads, saves}
 use Rattle.region_table.specs.Pieces.{pieces_of}
 use Rattle.workload_text.specs.Line.{load_line, store_line}
-use Rattle.flat_lines.specs.Spreads.{range_key, piece_key}
+use Rattle.flat_lines.specs.Spreads.{piece_key}
 
 module _ {J : Type 0} where
   abbrev pub pages_at : PagerSeen J → (region : ℕ) → ℕ
@@ -28,11 +24,6 @@ module _ {J : Type 0} where
     pub inside : off + len ≤ pages_at p region * p.page_size
     pub near : off + len ≤ 2 ^ 40
     pub few : p.spent + len ≤ 2 ^ 44
-
-  -- the region's pages hold these bytes, one page after another
-  pub record HoldsRegion (p : PagerSeen J) (region : ℕ) (bytes : List ℕ) : Type 0 where
-    pub whole : length bytes ≡ pages_at p region * p.page_size
-    pub each : (page : ℕ) → page < pages_at p region → held p (range_key region page) ≡ Some (page_bytes p.page_size bytes page)
 
   -- the table has the range's region, with pages of the pager's size
   pub record IsListed (p : PagerSeen J) (table : TableSeen) (region off len : ℕ) : Type 0 where
@@ -45,16 +36,11 @@ module _ {J : Type 0} where
   pub record RangeGoesOn (len : ℕ) (old new : PagerSeen J) : Type 0 where
     pub same : IsSame old new
     pub spent : new.spent ≤ old.spent + len
-    pub counts : CountsGrow old new
 
-  -- the access ended at a piece with this fault; a page that the fault names may have had to be written, or was stored to
-  pub record FaultsAt (old new : PagerSeen J) (region off len : ℕ) (stores : Key → Type 0) (done : ℕ) (f : PageFault) : Type 0 where
-    pub ends : EndsAt old.page_size off len done
-    pub page : has_key old f.key ≡ true
-    pub stripe : stripe_at old f.key ≡ stripe_at old (piece_key old.page_size region (off + done))
-    pub whose : (f.key ≡ piece_key old.page_size region (off + done)) ⊎ ((owes old f.key ≡ true) ⊎ stores f.key)
-    pub rose : Rose (count_at old (stripe_at old f.key) f.key.region) f.faults
-    pub within : f.faults ≤ count_at new (stripe_at old f.key) f.key.region
+  -- the fault that ended an access names a page of the stripe of the piece behind the `done` bytes
+  pub record FaultsAt (p : PagerSeen J) (region off done : ℕ) (f : PageFault) : Type 0 where
+    pub page : has_key p f.key ≡ true
+    pub stripe : stripe_at p f.key ≡ stripe_at p (piece_key p.page_size region (off + done))
 
   -- the stripes made these accesses in order, all by entries that pass a test, and then this failure
   pub record GoesBy (has_noted : J → History Entry → Type 0) (may : Entry → Bool) (accesses failure : List Entry) (old new : PagerSeen J) : Type 0 where
@@ -72,10 +58,6 @@ module _ {J : Type 0} where
 
   -- ---- a load of a range
 
-  -- these are the range's bytes, whatever bytes the region holds
-  abbrev pub AreBytesOf : (p : PagerSeen J) (region off len : ℕ) → List ℕ → Type 0
-  AreBytesOf p region off len got = (bytes : List ℕ) → HoldsRegion p region bytes → got ≡ take len (drop off bytes)
-
   -- the stripes made the loads of its pieces, with these bytes
   abbrev pub LoadsRange : (has_noted : J → History Entry → Type 0) → (region off len : ℕ) → List ℕ → (old new : PagerSeen J) → Type 0
   LoadsRange has_noted region off len bytes old new = GoesBy has_noted (may_make old.page_size (load_line region off len)) (loads (pieces_of old.page_size region off len) bytes) [] old new
@@ -83,20 +65,11 @@ module _ {J : Type 0} where
   -- a load of it ended at a piece, having loaded the pieces before
   abbrev pub LoadBreaks : (has_noted : J → History Entry → Type 0) → (region off len : ℕ) → PageFault → (old new : PagerSeen J) → Type 0
   LoadBreaks has_noted region off len f old new =
-      (done : ℕ) × FaultsAt old new region off len (λ k. ⊥) done f
+      (done : ℕ) × FaultsAt old region off done f
       × (bytes : List ℕ) × (length bytes ≡ done)
       × BreaksOff has_noted (may_make old.page_size (load_line region off len)) (λ k place its. Load k place its) (pieces_of old.page_size region off len) bytes (piece_key old.page_size region (off + done)) done f old new
 
   -- ---- a store of these bytes to a range
-
-  -- a page that may have to be written had to before, or the bytes are stored to it
-  abbrev pub OwesByStore : (region off : ℕ) → List ℕ → (old new : PagerSeen J) → Type 0
-  OwesByStore region off bytes old new =
-      (k : Key) → owes new k ≡ true → (owes old k ≡ true) ⊎ StoresTo old.page_size k (store_line region off bytes)
-
-  -- whatever the region held, it holds that with the bytes written over it
-  abbrev pub WritesOver : (region off : ℕ) → List ℕ → (old new : PagerSeen J) → Type 0
-  WritesOver region off bytes old new = (b : List ℕ) → HoldsRegion old region b → HoldsRegion new region (spliced b off bytes)
 
   -- the stripes made the stores of its pieces
   abbrev pub SavesRange : (has_noted : J → History Entry → Type 0) → (region off : ℕ) → List ℕ → (old new : PagerSeen J) → Type 0
@@ -105,6 +78,5 @@ module _ {J : Type 0} where
   -- a store ended at a piece, having stored to the pieces before
   abbrev pub StoreBreaks : (has_noted : J → History Entry → Type 0) → (region off : ℕ) → List ℕ → PageFault → (old new : PagerSeen J) → Type 0
   StoreBreaks has_noted region off bytes f old new =
-      (done : ℕ) × FaultsAt old new region off (length bytes) (λ k. StoresTo old.page_size k (store_line region off bytes)) done f
-      × WritesOver region off (take done bytes) old new
+      (done : ℕ) × FaultsAt old region off done f
       × BreaksOff has_noted (may_make old.page_size (store_line region off bytes)) (λ k place its. Save k place its) (pieces_of old.page_size region off (length bytes)) bytes (piece_key old.page_size region (off + done)) done f old new

@@ -1,8 +1,7 @@
 -- Running some lines: what they need, and what they do to the replies, to the pager and to the histories of its stripes.
-use Rattle.std.specs.Prelude.{Some, ◌≡◌, ℕ, ◌+◌, ◌*◌, ◌/◌, ◌^◌, ◌<◌, ◌≤◌, ◌||◌, Bool, true, List, [], ◌∷◌, ◌++◌, map, length, sum}
+use Rattle.std.specs.Prelude.{Some, ◌≡◌, ℕ, ◌+◌, ◌*◌, ◌/◌, ◌^◌, ◌<◌, ◌≤◌, ◌||◌, true, List, [], ◌∷◌, ◌++◌, map, length, sum}
 use Rattle.std.specs.List.{flat_map, list_any}
 use Rattle.histories.specs.Histories.{History}
-use Rattle.page_base.specs.declared.keys.Key.{Key}
 use Rattle.page_base.specs.declared.keys.RegionShape.{RegionShape}
 use Rattle.page_base.specs.Lanes.{LaneSeen}
 use Rattle.page_model.specs.declared.entry.Entry.{Entry}
@@ -11,7 +10,7 @@ use Rattle.page_model.specs.Stands.{StandsFor}
 use Rattle.region_table.specs.Regions.{TableSeen}
 use Rattle.serial_pager.specs.Seen.{StripeSeen}
 use Rattle.serial_pager.specs.Pagers as pagers
-use Rattle.serial_pager.specs.Pagers.{PagerSeen, core_at, owes, count_at, IsSame, WentAll}
+use Rattle.serial_pager.specs.Pagers.{PagerSeen, core_at, IsSame, WentAll}
 use Rattle.workload_text.specs.declared.limits.TheConstants.{MOST_STORED_BYTES, MOST_ACCESS_BYTES, MOST_LOADED_BYTES}
 use Rattle.workload_text.specs.Line.{Line}
 use Rattle.workload_text.specs.View.{lines_of, command_line}
@@ -20,27 +19,21 @@ use Rattle.workload_text.specs.declared.workload.Workload.{Workload}
 use Rattle.workload_text.specs.Grammar.{Region, size_at}
 use Rattle.workload_text.specs.Accepted.{AllFit, IsRunnable, regions_of, loaded_bytes, command_count}
 use Rattle.workload_text.specs.Built.{is_built}
-use Rattle.flat_lines.specs.FlatRegions.{bytes_at}
-use Rattle.script_run.specs.Contents.{contents_of}
 use Rattle.script_run.specs.Fits.{FitLanes, AreInRange}
 use Rattle.script_run.specs.Tables.{table_of}
 use Rattle.script_run.specs.InsideRooms.{rooms}
 use Rattle.script_run.specs.Replies.{Reply, replies_text, is_fault_reply, bytes_shown}
 use Rattle.flat_lines.specs.Spreads.{Spread}
-use Rattle.script_run.specs.FitsSerial.{spread_of, region_is_told, lane_at, AnyStoresTo, AllAnswer, left_by, counts_named, CountsFit}
+use Rattle.script_run.specs.FitsSerial.{spread_of}
 use Rattle.script_run.specs.FitsJournals.{setup_at}
+use Rattle.script_run.specs.FromJournals.{AllOfKind}
 use Rattle.script_run.specs.LineEntries.{AllMake}
-use Rattle.script_run.specs.InsideRanges.{pages_at, HoldsRegion}
+use Rattle.script_run.specs.InsideRanges.{pages_at}
 use Rattle.script_run.specs.declared.replies.Replies.{Replies}
 use Rattle.script_run.specs.declared.settings.Settings.{Settings}
 
 abbrev pub shape_of : (page_size : ℕ) → Region → RegionShape
 shape_of page_size g = record { pages = g.size / page_size; group = 1; writable = g.writable }
-
--- lines behind others, the newest first
-abbrev pub behind : List Line → List Line → List Line
-behind before [] = before
-behind before (l ∷ ls) = behind (l ∷ before) ls
 
 module _ {J : Type 0} where
   -- the pager's pages and stripes are those of the regions
@@ -62,23 +55,16 @@ module _ {J : Type 0} where
     pub few : replies.loaded + loaded_bytes lines ≤ MOST_LOADED_BYTES
     pub pieces : p.spent + MOST_ACCESS_BYTES * command_count lines ≤ 2 ^ 44
 
-  -- the told regions hold these bytes, and each page that may have to be written is stored to by one of these lines
-  pub record Shows (t : Spread) (told : ℕ → Bool) (lines : List Line) (regions : List (List ℕ)) (p : PagerSeen J) : Type 0 where
-    pub count : length regions ≡ length p.shapes
-    pub holds : (r : ℕ) → r < length p.shapes → told r ≡ true → HoldsRegion p r (bytes_at regions r)
-    pub owed : (k : Key) → owes p k ≡ true → AnyStoresTo t.page_size lines k
-
-  -- the lines ran, behind others
-  pub record Ran (has_noted : J → History Entry → Type 0) (t : Spread) (gs : List Region) (before lines : List Line) (old new : Replies) (p q : PagerSeen J) : Type 0 where
+  -- the lines ran
+  pub record Ran (has_noted : J → History Entry → Type 0) (t : Spread) (gs : List Region) (lines : List Line) (old new : Replies) (p q : PagerSeen J) : Type 0 where
     pub replies : List Reply
+    pub kinds : AllOfKind lines replies
     pub text : new.text.items ≡ old.text.items ++ replies_text gs replies
     pub spare : old.text.spare ≤ new.text.spare + rooms gs lines
     pub loaded : new.loaded ≡ old.loaded + length (flat_map bytes_shown replies)
     pub added : new.sum ≡ old.sum + sum (flat_map bytes_shown replies)
     pub within : length (flat_map bytes_shown replies) ≤ loaded_bytes lines
     pub faulted : new.faulted ≡ (old.faulted || list_any is_fault_reply replies)
-    pub answered : (told : ℕ → Bool) (regions : List (List ℕ)) → Shows t told before regions p → AllAnswer t told before regions lines replies × Shows t told (behind before lines) (left_by regions lines replies) q
-    pub counts : (s r : ℕ) → CountsFit (count_at p s r) (counts_named t s r replies) (count_at q s r)
     pub same : IsSame p q
     pub pieces : q.spent ≤ p.spent + MOST_ACCESS_BYTES * command_count lines
     -- what the stripes made, on top of whatever they had made
@@ -100,8 +86,6 @@ module _ {J : Type 0} where
     pub shaped : IsShaped (spread_of c.layout) gs p
     pub spent : p.spent ≡ 0
     pub stands : (s : ℕ) (core : Core) → core_at p s ≡ Some core → StandsFor [] core
-    pub shows : Shows (spread_of c.layout) (region_is_told rows) [] (contents_of rows) p
-    pub counts : (s r : ℕ) → s < c.layout.stripes → count_at p s r ≡ (lane_at rows s r).count
     pub made : (s : ℕ) → s < c.layout.stripes → pagers.setup_at p s ≡ Some (setup_at c p.shapes rows s)
     pub journals_are : map (λ (x : StripeSeen J). x.journal) p.stripes ≡ journals
 
@@ -115,16 +99,11 @@ module _ {J : Type 0} where
   abbrev pub MayRunOf : Workload → List Line → Replies → PagerSeen J → Type 0
   MayRunOf w lines replies p = (t : Spread) × MayRun t (regions_of (lines_of w)) lines replies p
 
-  -- the lines ran, behind whatever lines
+  -- the lines ran
   abbrev pub RanOf : (has_noted : J → History Entry → Type 0) → Workload → List Line → (old new : Replies) → (p q : PagerSeen J) → Type 0
   RanOf has_noted w lines old new p q =
-      (t : Spread) (before : List Line) → IsShaped t (regions_of (lines_of w)) p → Ran has_noted t (regions_of (lines_of w)) before lines old new p q
+      (t : Spread) → IsShaped t (regions_of (lines_of w)) p → Ran has_noted t (regions_of (lines_of w)) lines old new p q
 
   -- one command did
   abbrev pub RanOne : (has_noted : J → History Entry → Type 0) → Workload → Command → (old new : Replies) → (p q : PagerSeen J) → Type 0
   RanOne has_noted w command old new p q = RanOf has_noted w (command_line command ∷ []) old new p q
-
-  -- all of them ran
-  abbrev pub RanAll : (has_noted : J → History Entry → Type 0) → Workload → (old new : Replies) → (p q : PagerSeen J) → Type 0
-  RanAll has_noted w old new p q =
-      (t : Spread) → IsShaped t (regions_of (lines_of w)) p → Ran has_noted t (regions_of (lines_of w)) [] (lines_of w) old new p q

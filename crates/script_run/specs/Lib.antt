@@ -11,6 +11,7 @@ pub mod FitsSerial
 pub mod LineEntries
 pub mod FitsJournals
 pub mod FlatJournals
+pub mod FromJournals
 pub mod FitsLaws
 pub mod Tellings
 pub mod InsideRanges

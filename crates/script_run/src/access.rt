@@ -1,8 +1,7 @@
 //! Loads and stores of ranges, piece by piece.
-ghost use Rattle.std.specs.Prelude.{◌≡◌, ◌≢◌, true, length, OnOk, IfErr};
-ghost use Rattle.page_base.specs.declared.keys.Key.{Key};
-ghost use Rattle.serial_pager.specs.Pagers.{has_key, held, owes, is_writable, HoldsSame, journals_made};
-ghost use Rattle.script_run.specs.InsideRanges.{IsRange, IsListed, RangeGoesOn, AreBytesOf, LoadsRange, LoadBreaks, OwesByStore, WritesOver, SavesRange, StoreBreaks};
+ghost use Rattle.std.specs.Prelude.{◌≡◌, true, length, OnOk, IfErr};
+ghost use Rattle.serial_pager.specs.Pagers.{is_writable, journals_made};
+ghost use Rattle.script_run.specs.InsideRanges.{IsRange, IsListed, RangeGoesOn, LoadsRange, LoadBreaks, SavesRange, StoreBreaks};
 
 use page_model::Journal;
 use page_model::laws::accesses_by_piece;
@@ -23,9 +22,6 @@ pub(crate) fn load<S: Store, J: Journal>(
     requires listed { IsListed pager.old table.now region off (length buf.old) }
     ensures goes { RangeGoesOn (length buf.old) pager.old pager.new }
     ensures journals { journals_made J.made_with pager.new ≡ journals_made J.made_with pager.old }
-    ensures held { HoldsSame pager.old pager.new }
-    ensures owes { (k : Key) → owes pager.new k ≡ true → owes pager.old k ≡ true }
-    ensures bytes { OnOk result (AreBytesOf pager.old region off (length buf.old) buf.new) }
     ensures made { OnOk result (LoadsRange J.has_noted region off (length buf.old) buf.new pager.old pager.new) }
     ensures fault { IfErr result (λ f. LoadBreaks J.has_noted region off (length buf.old) f pager.old pager.new) }
 {
@@ -56,9 +52,6 @@ pub(crate) fn store<S: Store, J: Journal>(
     requires writable { is_writable pager.old region ≡ true }
     ensures goes { RangeGoesOn (length bytes.now) pager.old pager.new }
     ensures journals { journals_made J.made_with pager.new ≡ journals_made J.made_with pager.old }
-    ensures others { (k : Key) → has_key pager.old k ≡ true → k.region ≢ region → held pager.new k ≡ held pager.old k }
-    ensures owes { OwesByStore region off bytes.now pager.old pager.new }
-    ensures done { OnOk result (WritesOver region off bytes.now pager.old pager.new) }
     ensures made { OnOk result (SavesRange J.has_noted region off bytes.now pager.old pager.new) }
     ensures fault { IfErr result (λ f. StoreBreaks J.has_noted region off bytes.now f pager.old pager.new) }
 {

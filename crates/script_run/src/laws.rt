@@ -1,13 +1,15 @@
 //! What follows from the meaning of a run, from that of its regions, and from its journals. Each function does nothing but
 //! call the laws that it rests on: its contract is the law.
 ghost use Rattle.script_run.specs.FlatJournals.{JournalsAreFlat};
+ghost use Rattle.script_run.specs.FromJournals.{FromJournals};
 ghost use Rattle.script_run.specs.FitsLaws.{WithoutFaults, MemoryRunsAreSerial, RegionsAreMaps, DirtyIsWritten};
 ghost use Rattle.script_run.specs.Tellings.{ToldIsHeld, FlagIsCounted};
 
-use flat_lines::laws::owners_are_flat;
+use flat_lines::laws::{bytes_by_pages, owners_are_flat};
 use histories::laws::calls_of_one;
+use page_model::laws::{clean_is_kept, dirty_is_raised, faults_are_counted as model_faults};
 use page_model::{Entry, Journal};
-use region_table::laws::pieces_cover;
+use region_table::laws::{pieces_cover, pieces_follow};
 
 /// A run that isn't flagged answers the serial text and leaves the serial contents, where all is told.
 pub fn without_faults()
@@ -46,4 +48,16 @@ pub fn journals_are_flat()
     pieces_cover();
     calls_of_one::<Entry>();
     owners_are_flat();
+}
+
+/// What a run shows follows from what its journals have noted, from its replies, and from the lanes that come back.
+pub fn from_journals<J: Journal>()
+    ensures { FromJournals J.has_noted }
+{
+    pieces_follow();
+    clean_is_kept();
+    dirty_is_raised();
+    model_faults();
+    bytes_by_pages();
+    journals_are_flat();
 }

@@ -10,11 +10,12 @@ ghost use Rattle.workload_text.specs.Accepted.{IsRunnable, regions_of};
 ghost use Rattle.script_run.specs.Fits.{LanesFit, AreInRange};
 ghost use Rattle.script_run.specs.Ends.{lanes_in, origins_in, FitsRun};
 ghost use Rattle.script_run.specs.InsideRooms.{fault_room, fault_of};
-ghost use Rattle.script_run.specs.InsideRunning.{MayRunOf, RanOf, RanOne, RanAll};
+ghost use Rattle.script_run.specs.InsideRunning.{MayRunOf, RanOf, RanOne};
 ghost use Rattle.script_run.specs.Tables.{table_of};
 ghost use Rattle.script_run.specs.Tellings.{EndsTold};
 
 use crate::access::{load, store};
+use crate::laws::from_journals;
 use crate::opening::{open_pager, put_journals};
 use crate::replies::Replies;
 use crate::rooms::room_of;
@@ -113,7 +114,7 @@ fn run_scripts<S: Store, J: Journal>(
     requires wide { length buf.old ≡ MOST_ACCESS_BYTES }
     requires table { table.now ≡ table_of pager.old.page_size (lines_of workload.now) }
     requires may { MayRunOf workload.now (lines_of workload.now) replies.old pager.old }
-    ensures ran { RanAll J.has_noted workload.now replies.old replies.new pager.old pager.new }
+    ensures ran { RanOf J.has_noted workload.now (lines_of workload.now) replies.old replies.new pager.old pager.new }
     ensures journals { journals_made J.made_with pager.new ≡ journals_made J.made_with pager.old }
 {
     let scripts = workload.scripts.as_slice();
@@ -179,6 +180,7 @@ pub fn serial<S: Store, J: Journal>(
 {
     pages_show();
     clean_is_kept();
+    from_journals::<J>();
     let Some(room) = room_of(workload) else {
         return Err(RunBack::OutOfMemory { lanes });
     };
@@ -200,7 +202,6 @@ pub fn serial<S: Store, J: Journal>(
         &table,
     );
     let failed = pager.write_dirty();
-    pager.unowed_is_kept();
     let (lanes, noted) = pager.into_parts();
     put_journals(journals, noted);
     let faulted = is_faulted(&replies, failed);

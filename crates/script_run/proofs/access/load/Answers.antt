@@ -1,4 +1,4 @@
-use Rattle.std.proofs.Common.{◌≡◌, inl, ◌+◌, ◌*◌, ◌-◌, ◌≤◌, Some, [], ◌∷◌, ◌++◌, length, take, drop, refl, sym, ap, subst, ◌∙◌, arith, length-take, length-drop, append_assoc, append-nil}
+use Rattle.std.proofs.Common.{◌≡◌, ◌+◌, ◌-◌, ◌≤◌, [], ◌∷◌, ◌++◌, length, take, drop, refl, sym, ap, subst, ◌∙◌, arith, length-take, length-drop, append_assoc, append-nil}
 use Rattle.std.proofs.lemmas.List.{take_all}
 use Rattle.std.proofs.lemmas.List.Sums.{sum_by-append, sum_by-cons}
 use Rattle.std.proofs.lemmas.Slice.{take-put_mid}
@@ -8,18 +8,16 @@ use Rattle.region_table.specs.Covers.{IsNext}
 use Rattle.region_table.specs.Cuts.{rest_of}
 use Rattle.region_table.specs.Pieces.{pieces_of}
 use Rattle.page_base.specs.declared.keys.Piece.{Piece}
-use Rattle.store_trait.specs.Memory.{page_bytes}
 use Rattle.serial_pager.specs.Accesses.{is_read}
-use Rattle.serial_pager.specs.Pagers.{IsPiece, held, owes}
+use Rattle.serial_pager.specs.Pagers.{IsPiece, owes}
 use Rattle.workload_text.specs.Line.{load_line}
 use Rattle.page_model.specs.Pieces.{loads}
 use Rattle.script_run.specs.InsideRanges.{GoesBy}
 use Rattle.script_run.specs.LineEntries.{may_make}
 use Rattle.script_run.proofs.Allowed.{in_range, load_serves}
 use Rattle.script_run.proofs.Pieces.{length-put_mid}
-use Rattle.script_run.proofs.Accesses.{loaded_more}
 use Rattle.script_run.proofs.Makings.{by_none, by_access, by_failure, FailsBy}
-use Rattle.script_run.proofs.Ranged.{all_bytes, goes_none, goes_more, goes_within, one_piece, held_more, key_is, page_is, page_below, has_piece, is_piece, faults_at, piece_is}
+use Rattle.script_run.proofs.Ranged.{all_bytes, goes_none, goes_more, goes_within, one_piece, key_is, page_is, is_piece, faults_at}
 use Rattle.script_run.proofs.access.load.Goals as goal
 use Rattle.flat_lines.specs.Spreads.{range_key, piece_key}
 
@@ -29,41 +27,20 @@ loop-piece-init g c = record {
   within = omega arith;
   pieces = ap (λ z. pieces_of z c.args.region c.args.off (length c.args.buf.now)) (sym c.requires.listed.page_size) ∙ sym c.pieces-piece-items.ensures ∙ ap rest_of (sym c.into_iter-piece-iterator.ensures.into_iter_gives);
   bytes = refl;
-  held = λ k page. refl;
-  owes = λ k e. e;
-  front = λ bytes h. refl;
   made = by_none g.J.Journal.has_noted (may_make c.args.pager.now.page_size (load_line c.args.region c.args.off (length c.args.buf.now))) c.args.pager.now;
   journals = refl;
 }
 
 pub slice_bounds-load-end : goal.slice_bounds-load-end
 slice_bounds-load-end g c =
-    let p = c.args.pager.now in
-    let z = p.page_size in
-    let off = c.args.off in
-    let len = length c.args.buf.now in
-    let done = c.loop-piece.done in
     let i = c.loop-piece.invariant in
-    let front = c.loop-piece.yielded in
-    let piece : Piece = c.in-Some.piece in
-    let rest = rest_of c.next.new.self in
-    let whole : pieces_of z c.args.region off len ≡ front ++ piece ∷ rest = i.pieces ∙ ap (λ ps. front ++ ps) c.in-Some.ensures.steps in
-    let next : IsNext z c.args.region off len done piece = c.pieces_follow.ensures.next z c.args.region off len done front rest piece c.requires.listed.some whole i.bytes in
+    let next = c.pieces_follow.ensures.next c.args.pager.now.page_size c.args.region c.args.off (length c.args.buf.now) c.loop-piece.done c.loop-piece.yielded (rest_of c.next.new.self) c.in-Some.piece c.requires.listed.some (i.pieces ∙ ap (λ ps. c.loop-piece.yielded ++ ps) c.in-Some.ensures.steps) i.bytes in
     omega (arith, next.short, c.loop-piece.auto.buf)
 
 pub load-requires-clause-few : goal.load-requires-clause-few
 load-requires-clause-few g c =
-    let p = c.args.pager.now in
-    let z = p.page_size in
-    let off = c.args.off in
-    let len = length c.args.buf.now in
-    let done = c.loop-piece.done in
     let i = c.loop-piece.invariant in
-    let front = c.loop-piece.yielded in
-    let piece : Piece = c.in-Some.piece in
-    let rest = rest_of c.next.new.self in
-    let whole : pieces_of z c.args.region off len ≡ front ++ piece ∷ rest = i.pieces ∙ ap (λ ps. front ++ ps) c.in-Some.ensures.steps in
-    let next : IsNext z c.args.region off len done piece = c.pieces_follow.ensures.next z c.args.region off len done front rest piece c.requires.listed.some whole i.bytes in
+    let next = c.pieces_follow.ensures.next c.args.pager.now.page_size c.args.region c.args.off (length c.args.buf.now) c.loop-piece.done c.loop-piece.yielded (rest_of c.next.new.self) c.in-Some.piece c.requires.listed.some (i.pieces ∙ ap (λ ps. c.loop-piece.yielded ++ ps) c.in-Some.ensures.steps) i.bytes in
     omega (arith, i.goes.spent, c.requires.range.few, next.at.some, next.short, c.loop-piece.auto.buf)
 
 pub load-requires-clause-piece : goal.load-requires-clause-piece
@@ -109,17 +86,10 @@ loop-piece-preserved g c =
     let its = in_range z c.args.region off len done piece next in
     let taken : take (done + piece.len) (put_mid done (done + piece.len - done) buf bytes_read) ≡ take done buf ++ bytes_read = take-put_mid done (done + piece.len - done) buf bytes_read (done + piece.len) (omega (arith, fits)) (omega (arith, long, fits)) in
     record {
-      goes = goes_more done piece.len p now new i.goes (one_piece piece.len now new e.same e.spent e.counts next.at.some);
+      goes = goes_more done piece.len p now new i.goes (one_piece piece.len now new e.same e.spent next.at.some);
       within = omega (arith, whole_buf, fits);
       pieces = whole ∙ sym (append_assoc front (piece ∷ []) rest);
       bytes = sum_by-append (λ (q : Piece). q.len) front (piece ∷ []) ∙ omega (arith, i.bytes, sum_by-cons (λ (q : Piece). q.len) piece []);
-      held = held_more p now new i.goes.same i.held e.held;
-      owes = λ k owed. i.owes k (e.owes k owed);
-      front = λ bytes h.
-          let there : held now piece.key ≡ Some (page_bytes z bytes piece.key.page) = i.held piece.key (has_piece z c.args.region off len done piece next p now c.requires.range i.goes.same refl) ∙ ap (held p) (key_is z c.args.region off len done piece next) ∙ h.each piece.key.page (page_below z c.args.region off len done piece next p now c.requires.range i.goes.same refl) in
-          let inside : off + length buf ≤ length bytes = omega (arith, c.requires.range.inside, h.whole, c.loop-piece.auto.buf) in
-          let same : bytes_read ≡ take piece.len (drop (piece.key.page * z + piece.place) bytes) = piece_is z piece.key.page piece.place piece.len bytes bytes_read (held now piece.key) there e.bytes long next.at.within (omega (arith, next.at.begins, fits, inside)) in
-          loaded_more buf bytes_read bytes off done piece.len (piece.key.page * z + piece.place) fits inside long same next.at.begins (i.front bytes h) (done + piece.len - done) (done + piece.len) (omega arith) refl;
       made =
           subst (λ es. GoesBy g.J.Journal.has_noted (may_make z (load_line c.args.region off len)) es [] p new) (sym (ap (loads (front ++ piece ∷ [])) taken ∙ c.accesses_by_piece.ensures.own (λ k place its. Load k place its) front piece (take done buf) bytes_read (omega (arith, i.bytes, length-take done buf, fits)) long))
           (by_access g.J.Journal.has_noted (may_make z (load_line c.args.region off len)) (loads front (take done buf)) p now new piece.key is_read (load_serves z c.args.region off len piece.key its) (Load piece.key piece.place bytes_read) i.goes.same i.made e.ok refl refl its);
@@ -128,28 +98,13 @@ loop-piece-preserved g c =
 
 pub returns-in-Err-clause-goes : goal.returns-in-Err-clause-goes
 returns-in-Err-clause-goes g c =
-    let p = c.args.pager.now in
-    let z = p.page_size in
-    let off = c.args.off in
-    let len = length c.args.buf.now in
-    let done = c.loop-piece.done in
     let i = c.loop-piece.invariant in
-    let front = c.loop-piece.yielded in
-    let piece : Piece = c.in-Some.piece in
-    let rest = rest_of c.next.new.self in
-    let whole : pieces_of z c.args.region off len ≡ front ++ piece ∷ rest = i.pieces ∙ ap (λ ps. front ++ ps) c.in-Some.ensures.steps in
-    let next : IsNext z c.args.region off len done piece = c.pieces_follow.ensures.next z c.args.region off len done front rest piece c.requires.listed.some whole i.bytes in
+    let next = c.pieces_follow.ensures.next c.args.pager.now.page_size c.args.region c.args.off (length c.args.buf.now) c.loop-piece.done c.loop-piece.yielded (rest_of c.next.new.self) c.in-Some.piece c.requires.listed.some (i.pieces ∙ ap (λ ps. c.loop-piece.yielded ++ ps) c.in-Some.ensures.steps) i.bytes in
     let e = c.in-Err.ensures in
-    goes_within (done + 1) len p c.load.new.self (goes_more done 1 p c.loop-piece.pager c.load.new.self i.goes (one_piece 1 c.loop-piece.pager c.load.new.self e.same e.spent e.counts (omega arith))) (omega (arith, next.at.some, next.short))
+    goes_within (c.loop-piece.done + 1) (length c.args.buf.now) c.args.pager.now c.load.new.self (goes_more c.loop-piece.done 1 c.args.pager.now c.loop-piece.pager c.load.new.self i.goes (one_piece 1 c.loop-piece.pager c.load.new.self e.same e.spent (omega arith))) (omega (arith, next.at.some, next.short))
 
 pub returns-in-Err-clause-journals : goal.returns-in-Err-clause-journals
 returns-in-Err-clause-journals g c = c.in-Err.ensures.made ∙ c.loop-piece.invariant.journals
-
-pub returns-in-Err-clause-held : goal.returns-in-Err-clause-held
-returns-in-Err-clause-held g c = held_more c.args.pager.now c.loop-piece.pager c.load.new.self c.loop-piece.invariant.goes.same c.loop-piece.invariant.held c.in-Err.ensures.held
-
-pub returns-in-Err-clause-owes : goal.returns-in-Err-clause-owes
-returns-in-Err-clause-owes g c = λ k e. c.loop-piece.invariant.owes k (c.in-Err.ensures.owes k e)
 
 pub returns-in-Err-clause-fault : goal.returns-in-Err-clause-fault
 returns-in-Err-clause-fault g c =
@@ -172,7 +127,7 @@ returns-in-Err-clause-fault g c =
     let its = in_range z c.args.region off len done piece next in
     let fails : FailsBy g.J.Journal.has_noted (may_make z (load_line c.args.region off len)) (loads front (take done c.loop-piece.buf)) (piece_key z c.args.region (off + done)) f p new = by_failure g.J.Journal.has_noted (may_make z (load_line c.args.region off len)) (loads front (take done c.loop-piece.buf)) p now new piece.key (piece_key z c.args.region (off + done)) is_read (load_serves z c.args.region off len piece.key its) (owes now) f i.goes.same ended i.made e.err e.fault.stripe in (
       done,
-      faults_at p now new c.args.region off len done z piece (λ k. ⊥) f next i.goes (λ k h. inl (i.owes k h)) refl e.fault,
+      faults_at p now c.args.region off len done z piece f next i.goes.same refl e.fault.page e.fault.stripe,
       take done c.loop-piece.buf,
       omega (arith, length-take done c.loop-piece.buf, i.within),
       record {
@@ -186,13 +141,6 @@ returns-in-Err-clause-fault g c =
 
 pub returns-clause-goes : goal.returns-clause-goes
 returns-clause-goes g c = goes_within c.loop-piece.done (length c.args.buf.now) c.args.pager.now c.loop-piece.pager c.loop-piece.invariant.goes (omega (arith, c.loop-piece.invariant.within, c.loop-piece.auto.buf))
-
-pub returns-clause-bytes : goal.returns-clause-bytes
-returns-clause-bytes g c = λ bytes h.
-    let i = c.loop-piece.invariant in
-    let z = c.args.pager.now.page_size in
-    let all : c.loop-piece.done ≡ length c.args.buf.now = c.pieces_follow.ensures.all z c.args.region c.args.off (length c.args.buf.now) c.loop-piece.done c.requires.listed.some (all_bytes z c.args.region c.args.off (length c.args.buf.now) c.loop-piece.done c.loop-piece.yielded (i.pieces ∙ ap (λ ps. c.loop-piece.yielded ++ ps) c.in-None.ensures.steps.0) i.bytes) in
-    sym (take_all c.loop-piece.done c.loop-piece.buf (omega (arith, all, c.loop-piece.auto.buf))) ∙ i.front bytes h ∙ ap (λ m. take m (drop c.args.off bytes)) all
 
 pub returns-clause-made : goal.returns-clause-made
 returns-clause-made g c =

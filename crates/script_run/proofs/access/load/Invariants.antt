@@ -1,11 +1,10 @@
-use Rattle.std.proofs.Common.{◌≡◌, ◌++◌, ◌≤◌, ℕ, List, [], true, length, take, drop}
-use Rattle.page_base.specs.declared.keys.Key.{Key}
+use Rattle.std.proofs.Common.{◌≡◌, ◌++◌, ◌≤◌, [], length, take}
 use Rattle.region_table.specs.Cuts.{rest_of}
 use Rattle.region_table.specs.Pieces.{pieces_of}
-use Rattle.serial_pager.specs.Pagers.{owes, HoldsSame, journals_made}
+use Rattle.serial_pager.specs.Pagers.{journals_made}
 use Rattle.page_model.specs.Pieces.{loads, bytes_in}
 use Rattle.workload_text.specs.Line.{load_line}
-use Rattle.script_run.specs.InsideRanges.{HoldsRegion, RangeGoesOn, GoesBy}
+use Rattle.script_run.specs.InsideRanges.{RangeGoesOn, GoesBy}
 use Rattle.script_run.specs.LineEntries.{may_make}
 use Rattle.script_run.proofs.access.load.Given as goal
 
@@ -15,9 +14,6 @@ invariant-loop-piece g l = record {
   within : l.done ≤ length l.buf;
   pieces : pieces_of l.initial.pager.page_size l.region l.off (length l.initial.buf) ≡ l.yielded ++ rest_of l.piece-iterator;
   bytes : bytes_in l.yielded ≡ l.done;
-  held : HoldsSame l.initial.pager l.pager;
-  owes : (k : Key) → owes l.pager k ≡ true → owes l.initial.pager k ≡ true;
-  front : (bytes : List ℕ) → HoldsRegion l.initial.pager l.region bytes → take l.done l.buf ≡ take l.done (drop l.off bytes);
   made : GoesBy g.J.Journal.has_noted (may_make l.initial.pager.page_size (load_line l.region l.off (length l.initial.buf))) (loads l.yielded (take l.done l.buf)) [] l.initial.pager l.pager;
   journals : journals_made g.J.Journal.made_with l.pager ≡ journals_made g.J.Journal.made_with l.initial.pager;
 }

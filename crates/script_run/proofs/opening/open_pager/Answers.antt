@@ -5,7 +5,7 @@ use Rattle.serial_pager.specs.declared.pager.PagerConfig.{PagerConfig}
 use Rattle.workload_text.specs.Accepted.{regions_of}
 use Rattle.script_run.specs.InsideRunning.{MayOpen, shape_of}
 use Rattle.script_run.proofs.Openings.{sizes_kept}
-use Rattle.script_run.proofs.FittedLanes.{can_open, whole_rows}
+use Rattle.script_run.proofs.FittedLanes.{can_open}
 use Rattle.script_run.proofs.OpenedOn.{opens_on}
 use Rattle.script_run.proofs.Tabled.{shapes_are, few_of_table}
 use Rattle.script_run.proofs.opening.open_pager.Goals as goal
@@ -34,5 +34,5 @@ returns-in-Ok-open-clause-opened g c = λ lines may.
     let few = few_of_table s.layout.page_size lines may.built (omega (arith, c.in-Ok.ensures.few, ap page_count may.table_is)) in
     let own : c.replace-own.result.items ≡ c.args.journals.now.items = ap (λ l. l.items) c.replace-own.ensures.value in
     let can : CanOpen config rows (length c.args.journals.now.items) = can_open s.layout gs rows may.lanes s may.settings refl may.runnable.regions few config refl shapes (length c.args.journals.now.items) may.as_many in
-    opens_on s.layout gs rows may.lanes (whole_rows g.S.Store.seen (λ x page. g.met.S.Store.whole_pages x page) c.args.lanes.stripes.items)
+    opens_on s.layout gs rows may.lanes
     s refl config refl c.args.journals.now.items can c.in-Ok-open.pager (rw own at c.in-Ok-open.ensures.opened) shapes may.lanes.whole (sizes_kept gs lines may.runnable.fit)

@@ -1,5 +1,5 @@
-use Rattle.std.proofs.Common.{◌≡◌, ◌+◌, ◌∷◌, [], List, length, take, drop, sym, ap, subst, ◌∙◌, arith, length-take}
-use Rattle.workload_text.specs.Line.{Line, load_line, store_line}
+use Rattle.std.proofs.Common.{◌≡◌, ◌+◌, ◌∷◌, [], length, take, sym, ap, subst, ◌∙◌, arith, length-take}
+use Rattle.workload_text.specs.Line.{load_line, store_line}
 use Rattle.workload_text.specs.View.{lines_of}
 use Rattle.workload_text.specs.Accepted.{regions_of}
 use Rattle.page_model.specs.declared.entry.Entry.TheVariants.{Load}
@@ -7,7 +7,7 @@ use Rattle.region_table.specs.Pieces.{pieces_of}
 use Rattle.flat_lines.specs.Spreads.{Spread, piece_key}
 use Rattle.page_model.specs.Pieces.{loads}
 use Rattle.script_run.specs.InsideRunning.{MayRun, Ran}
-use Rattle.script_run.specs.InsideRanges.{IsRange, RangeGoesOn, FaultsAt, GoesBy, BreaksOff}
+use Rattle.script_run.specs.InsideRanges.{IsRange, RangeGoesOn, GoesBy, BreaksOff}
 use Rattle.script_run.specs.LineEntries.{may_make}
 use Rattle.script_run.proofs.Tabled.{is_listed}
 use Rattle.script_run.proofs.RanOne.{range_is, writable_is, fault_known, ran_load, ran_load_fault, ran_store, ran_store_fault}
@@ -78,7 +78,7 @@ tell_fault-requires-clause-region g c =
     let m : MayRun t gs (load_line a.region a.off a.len ∷ []) c.args.replies.now p = rw a.is at c.requires.may.1 in
     let fit = m.fit.0 in
     let part : length (take a.len c.args.buf.now) ≡ a.len = omega (arith, fit.short, c.requires.wide, length-take a.len c.args.buf.now) in
-    fault_known t gs p c.load.new.pager a.region a.off (length (take a.len c.args.buf.now)) c.in-Err.ensures.fault.0 (λ k. ⊥) c.in-Err.fault m.shaped c.in-Err.ensures.fault.1
+    fault_known t gs p a.region a.off c.in-Err.ensures.fault.0 c.in-Err.fault m.shaped c.in-Err.ensures.fault.1
 
 pub tell_fault-requires-in-Err-store-clause-region : goal.tell_fault-requires-in-Err-store-clause-region
 tell_fault-requires-in-Err-store-clause-region g c =
@@ -89,7 +89,7 @@ tell_fault-requires-in-Err-store-clause-region g c =
     let m : MayRun t gs (store_line a.region a.off a.bytes.items ∷ []) c.args.replies.now p = rw a.is at c.requires.may.1 in
     let fit = m.fit.0 in
     let long : length c.as_slice.result.now ≡ length a.bytes.items = ap length c.as_slice.ensures in
-    fault_known t gs p c.store.new.pager a.region a.off (length c.as_slice.result.now) c.in-Err-store.ensures.fault.0 _ c.in-Err-store.fault m.shaped c.in-Err-store.ensures.fault.1
+    fault_known t gs p a.region a.off c.in-Err-store.ensures.fault.0 c.in-Err-store.fault m.shaped c.in-Err-store.ensures.fault.1
 
 pub returns-in-Ok-clause-ran : goal.returns-in-Ok-clause-ran
 returns-in-Ok-clause-ran g c =
@@ -101,9 +101,9 @@ returns-in-Ok-clause-ran g c =
     let fit = m.fit.0 in
     let part : length (take a.len c.args.buf.now) ≡ a.len = omega (arith, fit.short, c.requires.wide, length-take a.len c.args.buf.now) in
     let o = c.load-in-Ok.ensures in
-    rw a.is (λ (t : Spread) (before : List Line) shaped.
-    ran_load t gs p shaped g.J.Journal.has_noted before a.region a.off c.args.replies.now c.load-in-Ok.new.self c.load.new.pager fit.known a.len c.load.new.buf (c.load.auto.buf ∙ part) fit.short (subst (λ n. RangeGoesOn n p c.load.new.pager) part c.load.ensures.goes) c.load.ensures.held c.load.ensures.owes
-    (λ b h. c.in-Ok.ensures.bytes b h ∙ ap (λ n. take n (drop a.off b)) part) o.text o.spare o.loaded o.sum o.faulted
+    rw a.is (λ (t : Spread) shaped.
+    ran_load t gs p shaped g.J.Journal.has_noted a.region a.off c.args.replies.now c.load-in-Ok.new.self c.load.new.pager a.len c.load.new.buf (c.load.auto.buf ∙ part) fit.short (subst (λ n. RangeGoesOn n p c.load.new.pager) part c.load.ensures.goes)
+    o.text o.spare o.loaded o.sum o.faulted
     (subst (λ n. GoesBy g.J.Journal.has_noted (may_make p.page_size (load_line a.region a.off n)) (loads (pieces_of p.page_size a.region a.off n) c.load.new.buf) [] p c.load.new.pager) part c.in-Ok.ensures.made))
 
 pub returns-in-Err-clause-ran : goal.returns-in-Err-clause-ran
@@ -117,9 +117,9 @@ returns-in-Err-clause-ran g c =
     let part : length (take a.len c.args.buf.now) ≡ a.len = omega (arith, fit.short, c.requires.wide, length-take a.len c.args.buf.now) in
     let o = c.tell_fault.ensures in
     let f = c.in-Err.ensures.fault in
-    rw a.is (λ (t : Spread) (before : List Line) shaped.
-    ran_load_fault t gs p shaped g.J.Journal.has_noted before a.region a.off c.args.replies.now c.tell_fault.new.replies c.load.new.pager fit.known a.len f.0 c.in-Err.fault fit.short (subst (λ n. RangeGoesOn n p c.load.new.pager) part c.load.ensures.goes) c.load.ensures.held c.load.ensures.owes
-    (subst (λ n. FaultsAt p c.load.new.pager a.region a.off n (λ k. ⊥) f.0 c.in-Err.fault) part f.1) o.text o.spare o.loaded o.sum o.faulted
+    rw a.is (λ (t : Spread) shaped.
+    ran_load_fault t gs p shaped g.J.Journal.has_noted a.region a.off c.args.replies.now c.tell_fault.new.replies c.load.new.pager a.len f.0 c.in-Err.fault fit.short (subst (λ n. RangeGoesOn n p c.load.new.pager) part c.load.ensures.goes) f.1
+    o.text o.spare o.loaded o.sum o.faulted
     f.2 f.3 (subst (λ n. BreaksOff g.J.Journal.has_noted (may_make p.page_size (load_line a.region a.off n)) (λ k place its. Load k place its) (pieces_of p.page_size a.region a.off n) f.2 (piece_key p.page_size a.region (a.off + f.0)) f.0 c.in-Err.fault p c.load.new.pager) part f.4))
 
 pub returns-in-Ok-store-clause-ran : goal.returns-in-Ok-store-clause-ran
@@ -132,9 +132,9 @@ returns-in-Ok-store-clause-ran g c =
     let fit = m.fit.0 in
     let long : length c.as_slice.result.now ≡ length a.bytes.items = ap length c.as_slice.ensures in
     let o = c.ok.ensures in
-    rw a.is (λ (t : Spread) (before : List Line) shaped.
-    subst (λ xs. Ran g.J.Journal.has_noted t gs before (store_line a.region a.off xs ∷ []) c.args.replies.now c.ok.new.self p c.store.new.pager) c.as_slice.ensures
-    (ran_store t gs p shaped g.J.Journal.has_noted before a.region a.off c.args.replies.now c.ok.new.self c.store.new.pager fit.range.known c.as_slice.result.now (omega (arith, long, fit.range.short)) c.store.ensures.goes c.store.ensures.others c.store.ensures.owes c.in-Ok-store.ensures.done o.text o.spare o.loaded o.sum o.faulted c.in-Ok-store.ensures.made))
+    rw a.is (λ (t : Spread) shaped.
+    subst (λ xs. Ran g.J.Journal.has_noted t gs (store_line a.region a.off xs ∷ []) c.args.replies.now c.ok.new.self p c.store.new.pager) c.as_slice.ensures
+    (ran_store t gs p shaped g.J.Journal.has_noted a.region a.off c.args.replies.now c.ok.new.self c.store.new.pager c.as_slice.result.now (omega (arith, long, fit.range.short)) c.store.ensures.goes o.text o.spare o.loaded o.sum o.faulted c.in-Ok-store.ensures.made))
 
 pub returns-in-Err-store-clause-ran : goal.returns-in-Err-store-clause-ran
 returns-in-Err-store-clause-ran g c =
@@ -147,6 +147,6 @@ returns-in-Err-store-clause-ran g c =
     let long : length c.as_slice.result.now ≡ length a.bytes.items = ap length c.as_slice.ensures in
     let o = c.tell_fault-in-Err-store.ensures in
     let f = c.in-Err-store.ensures.fault in
-    rw a.is (λ (t : Spread) (before : List Line) shaped.
-    subst (λ xs. Ran g.J.Journal.has_noted t gs before (store_line a.region a.off xs ∷ []) c.args.replies.now c.tell_fault-in-Err-store.new.replies p c.store.new.pager) c.as_slice.ensures
-    (ran_store_fault t gs p shaped g.J.Journal.has_noted before a.region a.off c.args.replies.now c.tell_fault-in-Err-store.new.replies c.store.new.pager fit.range.known c.as_slice.result.now (omega (arith, long, fit.range.short)) c.store.ensures.goes c.store.ensures.others c.store.ensures.owes f.0 c.in-Err-store.fault f.1 f.2 o.text o.spare o.loaded o.sum o.faulted f.3))
+    rw a.is (λ (t : Spread) shaped.
+    subst (λ xs. Ran g.J.Journal.has_noted t gs (store_line a.region a.off xs ∷ []) c.args.replies.now c.tell_fault-in-Err-store.new.replies p c.store.new.pager) c.as_slice.ensures
+    (ran_store_fault t gs p shaped g.J.Journal.has_noted a.region a.off c.args.replies.now c.tell_fault-in-Err-store.new.replies c.store.new.pager c.as_slice.result.now (omega (arith, long, fit.range.short)) c.store.ensures.goes f.0 c.in-Err-store.fault f.1 o.text o.spare o.loaded o.sum o.faulted f.2))

@@ -1,6 +1,6 @@
-use Rattle.std.proofs.Common.{◌≡◌, [], ◌∷◌, ◌++◌, List, take}
+use Rattle.std.proofs.Common.{◌≡◌, [], ◌∷◌, ◌++◌, take}
 use Rattle.std.specs.List.{flat_map}
-use Rattle.workload_text.specs.Line.{Line, script_line}
+use Rattle.workload_text.specs.Line.{script_line}
 use Rattle.serial_pager.specs.Pagers.{journals_made}
 use Rattle.workload_text.specs.View.{lines_of, command_line}
 use Rattle.workload_text.specs.Accepted.{regions_of}
@@ -11,6 +11,6 @@ use Rattle.script_run.proofs.serial_run.run_script.Given as goal
 
 abbrev pub invariant-loop-i : goal.invariant-loop-i
 invariant-loop-i g l = record {
-  ran : (t : Spread) (before : List Line) → IsShaped t (regions_of (lines_of l.fn.workload)) l.fn.pager → Ran g.J.Journal.has_noted t (regions_of (lines_of l.fn.workload)) before ((script_line l.fn.script.name.items ∷ []) ++ flat_map (λ (c : Command). command_line c ∷ []) (take l.i l.commands)) l.fn.replies l.replies l.fn.pager l.pager;
+  ran : (t : Spread) → IsShaped t (regions_of (lines_of l.fn.workload)) l.fn.pager → Ran g.J.Journal.has_noted t (regions_of (lines_of l.fn.workload)) ((script_line l.fn.script.name.items ∷ []) ++ flat_map (λ (c : Command). command_line c ∷ []) (take l.i l.commands)) l.fn.replies l.replies l.fn.pager l.pager;
   journals : journals_made g.J.Journal.made_with l.pager ≡ journals_made g.J.Journal.made_with l.fn.pager;
 }

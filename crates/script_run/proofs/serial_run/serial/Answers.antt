@@ -9,8 +9,7 @@ use Rattle.script_run.specs.FitsSerial.{spread_of, EndSeen}
 use Rattle.script_run.specs.FitsJournals.{FitsJournals}
 use Rattle.script_run.specs.InsideRunning.{MayOpen, OpensOn, Ran}
 use Rattle.script_run.specs.Tables.{table_of}
-use Rattle.script_run.proofs.SerialFits.{may_run, run_origins, fits_serial}
-use Rattle.script_run.proofs.Journaled.{fits_journals}
+use Rattle.script_run.proofs.Journaled.{may_run, run_origins, run_shown, run_given, fits_journals}
 use Rattle.script_run.proofs.FittedLanes.{whole_rows}
 use Rattle.script_run.proofs.Tabled.{as_many, shapes_are}
 use Rattle.script_run.proofs.Tellings.{stay_told}
@@ -53,7 +52,7 @@ write_dirty-failed-requires g c =
     let js = c.args.journals.now.items in
     let may : MayOpen set c.args.table lines rows js = record { runnable = c.requires.runnable; built = c.requires.built; settings = c.requires.settings; table_is = c.requires.table; lanes = c.requires.lanes; as_many = c.requires.journals } in
     let opens : OpensOn set (regions_of lines) rows js c.in-Ok-open_pager.pager = c.in-Ok-open_pager.ensures.opened lines may in
-    let ran : Ran g.J.Journal.has_noted (spread_of set.layout) (regions_of lines) [] lines c.in-Ok.replies c.run_scripts.new.replies c.in-Ok-open_pager.pager c.run_scripts.new.pager = c.run_scripts.ensures.ran (spread_of set.layout) opens.shaped in
+    let ran : Ran g.J.Journal.has_noted (spread_of set.layout) (regions_of lines) lines c.in-Ok.replies c.run_scripts.new.replies c.in-Ok-open_pager.pager c.run_scripts.new.pager = c.run_scripts.ensures.ran (spread_of set.layout) opens.shaped in
     record { few = omega (arith, ran.pieces, opens.spent, c.requires.runnable.commands) }
 
 pub returns-clause-fits : goal.returns-clause-fits
@@ -64,20 +63,25 @@ returns-clause-fits g c =
     let js = c.args.journals.now.items in
     let may : MayOpen set c.args.table lines rows js = record { runnable = c.requires.runnable; built = c.requires.built; settings = c.requires.settings; table_is = c.requires.table; lanes = c.requires.lanes; as_many = c.requires.journals } in
     let opens : OpensOn set (regions_of lines) rows js c.in-Ok-open_pager.pager = c.in-Ok-open_pager.ensures.opened lines may in
-    let ran : Ran g.J.Journal.has_noted (spread_of set.layout) (regions_of lines) [] lines c.in-Ok.replies c.run_scripts.new.replies c.in-Ok-open_pager.pager c.run_scripts.new.pager = c.run_scripts.ensures.ran (spread_of set.layout) opens.shaped in
+    let ran : Ran g.J.Journal.has_noted (spread_of set.layout) (regions_of lines) lines c.in-Ok.replies c.run_scripts.new.replies c.in-Ok-open_pager.pager c.run_scripts.new.pager = c.run_scripts.ensures.ran (spread_of set.layout) opens.shaped in
     let p = c.in-Ok-open_pager.pager in
     let q = c.run_scripts.new.pager in
     let z = c.write_dirty-failed.new.self in
     let w = c.write_dirty-failed.ensures in
     let ends = rows_of g.S.Store.seen c.into_parts-lanes.result.0 in
     let e : EndSeen = record { text = c.into_text.result.items; faulted = c.is_faulted-faulted.result; loaded = c.run_scripts.new.replies.loaded; sum = c.run_scripts.new.replies.sum } in
-    let run = fits_serial g.J.Journal.has_noted set lines rows ends js c.requires.lanes c.requires.runnable.fit c.in-Ok.replies c.run_scripts.new.replies p q z opens ran w.same c.into_parts-lanes.ensures.lanes
-    w.held w.counts w.owes c.unowed_is_kept.ensures.kept w.tried c.write_dirty-failed.result w.failed w.stored
-    e (ap (λ (b : _). b.items) c.into_text.ensures) c.is_faulted-faulted.ensures refl refl c.in-Ok.ensures.empty c.in-Ok.ensures.faulted c.in-Ok.ensures.loaded c.in-Ok.ensures.sum in
+    let lanes = c.into_parts-lanes.ensures.lanes in
     let noted = c.put_journals.new.list.items in
-    let journals = fits_journals g.J.Journal.has_noted set lines rows ends js c.requires.lanes c.requires.runnable.fit c.in-Ok.replies c.run_scripts.new.replies p q z opens ran w.same c.into_parts-lanes.ensures.lanes
-    c.args.table c.requires.table c.requires.built c.requires.empty c.write_dirty-failed.result w.entries
+    let failed = c.write_dirty-failed.result in
+    let fit = c.requires.lanes in
+    let r0 = c.in-Ok.replies in
+    let r1 = c.run_scripts.new.replies in
+    let journals = fits_journals g.J.Journal.has_noted set lines rows ends js fit r0 r1 p q z opens ran w.same lanes c.args.table c.requires.table c.requires.built c.requires.empty failed w.entries
     c.pages_show.ensures c.clean_is_kept.ensures noted (c.put_journals.ensures ∙ c.into_parts-lanes.ensures.journals) in
+    let given = run_given g.J.Journal.has_noted set lines rows ends js fit r0 r1 p q z opens ran w.same lanes c.args.table c.requires.table c.requires.built c.requires.runnable.fit in
+    let shown = run_shown g.J.Journal.has_noted set lines rows ends js fit r0 r1 p q z opens ran w.same lanes c.args.table c.requires.table c.requires.built failed
+    e (ap (λ (b : _). b.items) c.into_text.ensures) c.is_faulted-faulted.ensures refl refl c.in-Ok.ensures.empty c.in-Ok.ensures.faulted c.in-Ok.ensures.loaded c.in-Ok.ensures.sum in
+    let run = c.from_journals.ensures set c.args.table lines rows ends ran.replies failed noted e given shown journals in
     let by_replies = subst (λ rs. FitsJournals g.J.Journal.has_noted set c.args.table lines rows ends rs c.write_dirty-failed.result noted) (sym run.1) journals in
     (run.0, subst (λ f. FitsJournals g.J.Journal.has_noted set c.args.table lines rows ends run.0.replies f noted) (sym run.2) by_replies)
 
@@ -89,8 +93,8 @@ returns-clause-origins g c =
     let js = c.args.journals.now.items in
     let may : MayOpen set c.args.table lines rows js = record { runnable = c.requires.runnable; built = c.requires.built; settings = c.requires.settings; table_is = c.requires.table; lanes = c.requires.lanes; as_many = c.requires.journals } in
     let opens : OpensOn set (regions_of lines) rows js c.in-Ok-open_pager.pager = c.in-Ok-open_pager.ensures.opened lines may in
-    let ran : Ran g.J.Journal.has_noted (spread_of set.layout) (regions_of lines) [] lines c.in-Ok.replies c.run_scripts.new.replies c.in-Ok-open_pager.pager c.run_scripts.new.pager = c.run_scripts.ensures.ran (spread_of set.layout) opens.shaped in
-    run_origins g.J.Journal.has_noted set lines rows (rows_of g.S.Store.seen c.into_parts-lanes.result.0) js c.requires.lanes c.requires.runnable.fit c.in-Ok.replies c.run_scripts.new.replies c.in-Ok-open_pager.pager c.run_scripts.new.pager c.write_dirty-failed.new.self opens ran c.write_dirty-failed.ensures.same c.into_parts-lanes.ensures.lanes
+    let ran : Ran g.J.Journal.has_noted (spread_of set.layout) (regions_of lines) lines c.in-Ok.replies c.run_scripts.new.replies c.in-Ok-open_pager.pager c.run_scripts.new.pager = c.run_scripts.ensures.ran (spread_of set.layout) opens.shaped in
+    run_origins g.J.Journal.has_noted set lines rows (rows_of g.S.Store.seen c.into_parts-lanes.result.0) js c.requires.lanes c.in-Ok.replies c.run_scripts.new.replies c.in-Ok-open_pager.pager c.run_scripts.new.pager c.write_dirty-failed.new.self opens ran c.write_dirty-failed.ensures.same c.into_parts-lanes.ensures.lanes c.args.table c.requires.table c.requires.built
 
 pub returns-clause-journals : goal.returns-clause-journals
 returns-clause-journals g c =
