@@ -12,32 +12,17 @@ use Rattle.page_model.specs.Setups.{Setup, regions}
 use Rattle.serial_pager.specs.Seen.{StripeSeen}
 use Rattle.serial_pager.specs.Holdings as one
 use Rattle.serial_pager.specs.Writings as one_writing
-use Rattle.serial_pager.specs.Pagers.{PagerSeen, group_in, core_in, held_in, kept_in, owes_in, count_in, core_at, region_has_page, has_key, stripe_at, owes, count_at, IsSame, HoldsSame, CountsGrow, RoseAt, IsKept, IsTried}
+use Rattle.serial_pager.specs.Pagers.{PagerSeen, group_in, core_in, closes_in, held_in, kept_in, owes_in, count_in, core_at, region_has_page, has_key, stripe_at, owes, count_at, IsSame, HoldsSame, CountsGrow, RoseAt, IsKept, IsTried}
 use Rattle.serial_pager.specs.InsideSound.{IsSound, Flushes, SomeRose}
 use Rattle.serial_pager.proofs.Kept.{kept_where_told}
 use Rattle.serial_pager.proofs.Stripes.{stripe_of_pages}
 use Rattle.serial_pager.proofs.Unmade.{past}
+use Rattle.serial_pager.proofs.Walking.{Neither, Pair, pairs}
 
 module _ {J : Type 0} (old new : PagerSeen J) (sound : IsSound old) (many : length new.stripes ≡ length old.stripes) (shapes : new.shapes ≡ old.shapes) (size : new.page_size ≡ old.page_size)
     (flushed : (s : ℕ) (x y : StripeSeen J) → slice_get old.stripes s ≡ Some x → slice_get new.stripes s ≡ Some y → Flushes x y) where
-  record Pair (s : ℕ) : Type 0 where
-    pub x : StripeSeen J
-    pub y : StripeSeen J
-    pub was : slice_get old.stripes s ≡ Some x
-    pub is : slice_get new.stripes s ≡ Some y
-
-  record Neither (s : ℕ) : Type 0 where
-    pub was : slice_get old.stripes s ≡ None
-    pub is : slice_get new.stripes s ≡ None
-
-  pair : (s : ℕ) → Pair s ⊎ Neither s
-  pair s = go (slice_get old.stripes s) (slice_get new.stripes s) refl refl
-    where
-      go : (o q : Option (StripeSeen J)) → slice_get old.stripes s ≡ o → slice_get new.stripes s ≡ q → Pair s ⊎ Neither s
-      go None None e f = inr (record { was = e; is = f })
-      go None (Some y) e f = absurd (omega (arith, past old.stripes s e, slice_get_within new.stripes s y f, many))
-      go (Some x) None e f = absurd (omega (arith, past new.stripes s f, slice_get_within old.stripes s x e, many))
-      go (Some x) (Some y) e f = inl (record { x = x; y = y; was = e; is = f })
+  pair : (s : ℕ) → Pair old new s ⊎ Neither old new s
+  pair = pairs old new many
 
   same_stripe : (k : Key) → stripe_at new k ≡ stripe_at old k
   same_stripe k =
@@ -55,6 +40,10 @@ module _ {J : Type 0} (old new : PagerSeen J) (sound : IsSound old) (many : leng
     setups = λ s. elim (pair s) [
       | inl p ↦ ap (λ o. option_map (λ (c : Core). c.setup) (core_in o)) p.is ∙ ap (λ (u : Setup). Some u) (flushed s p.x p.y p.was p.is).fixed ∙ sym (ap (λ o. option_map (λ (c : Core). c.setup) (core_in o)) p.was)
       | inr n ↦ ap (λ o. option_map (λ (c : Core). c.setup) (core_in o)) n.is ∙ sym (ap (λ o. option_map (λ (c : Core). c.setup) (core_in o)) n.was)
+    ];
+    closes = λ s r. elim (pair s) [
+      | inl p ↦ ap (λ o. closes_in (core_in o) r) p.is ∙ ((flushed s p.x p.y p.was p.is).closes r ∙ sym (ap (λ o. closes_in (core_in o) r) p.was))
+      | inr n ↦ ap (λ o. closes_in (core_in o) r) n.is ∙ sym (ap (λ o. closes_in (core_in o) r) n.was)
     ];
   }
 
@@ -102,10 +91,10 @@ module _ {J : Type 0} (old new : PagerSeen J) (sound : IsSound old) (many : leng
       nothing : false ≡ true → ⊥
       nothing h = cc
 
-  count_was : (s r : ℕ) (p : Pair s) → count_at old s r ≡ one.count_at p.x.core r
+  count_was : (s r : ℕ) (p : Pair old new s) → count_at old s r ≡ one.count_at p.x.core r
   count_was s r p = ap (λ o. count_in (core_in o) r) p.was
 
-  count_is : (s r : ℕ) (p : Pair s) → count_at new s r ≡ one.count_at p.y.core r
+  count_is : (s r : ℕ) (p : Pair old new s) → count_at new s r ≡ one.count_at p.y.core r
   count_is s r p = ap (λ o. count_in (core_in o) r) p.is
 
   pub counts_after : CountsGrow old new
@@ -114,10 +103,10 @@ module _ {J : Type 0} (old new : PagerSeen J) (sound : IsSound old) (many : leng
     | inr n ↦ omega (arith, ap (λ o. count_in (core_in o) r) n.was)
   ]
 
-  rose_after : (s r : ℕ) (p : Pair s) → one_writing.RoseAt p.x.core p.y.core r → RoseAt old new s r
+  rose_after : (s r : ℕ) (p : Pair old new s) → one_writing.RoseAt p.x.core p.y.core r → RoseAt old new s r
   rose_after s r p rose = subst (λ n. Rose n (count_at new s r)) (sym (count_was s r p)) (subst (λ n. Rose (one.count_at p.x.core r) n) (sym (count_is s r p)) rose)
 
-  kept_after : (s r : ℕ) (p : Pair s) → one.IsStored p.y.core r → IsKept new s r
+  kept_after : (s r : ℕ) (p : Pair old new s) → one.IsStored p.y.core r → IsKept new s r
   kept_after s r p stored k region page at =
       let here : core_at new (stripe_at new k) ≡ Some p.y.core = ap (core_at new) at ∙ ap core_in p.is in
       let part = sound.each s p.x p.was in

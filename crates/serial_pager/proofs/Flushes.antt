@@ -21,9 +21,12 @@ use Rattle.serial_pager.specs.declared.fault.PageFault.{PageFault}
 use Rattle.serial_pager.specs.Holdings.{CountsGrow, HoldsSame, IsClean, IsStored, count_at}
 use Rattle.serial_pager.specs.InsideGoings.{FailsToWriteOut, TriesToWrite, WritesOut}
 use Rattle.serial_pager.specs.InsideServices.{FailsToWrite, Tries, Writes}
-use Rattle.serial_pager.specs.Rests.{IsAtRest}
+use Rattle.serial_pager.specs.Rests.{ClosesSame, IsAtRest}
 use Rattle.serial_pager.specs.Seen.{StripeSeen}
-use Rattle.serial_pager.specs.Writings.{Falls, RoseAt, WroteBack, WroteEach, flushes, is_failed_write, is_failed_write_of, tries}
+use Rattle.serial_pager.specs.Goings.{Did}
+use Rattle.serial_pager.specs.Writings.{Falls, RoseAt, WritesAll, WritesUpTo, WroteBack, WroteEach, flushes, is_failed_write, is_failed_write_of, tries}
+use Rattle.page_model.specs.Setups.{has_page}
+use Rattle.serial_pager.proofs.Closed.{closes_nothing, closes_same}
 use Rattle.serial_pager.proofs.Goes.{all_both, went_nowhere, went_twice}
 use Rattle.serial_pager.proofs.Holds.{stores_nothing, told_held}
 use Rattle.serial_pager.proofs.Keys.{same-true, same_self}
@@ -45,7 +48,7 @@ pub tries_entries : {J X : Type 0} (noted : J → History Entry → Type 0) (k :
 tries_entries noted k a b (Ok x) w f = w
 tries_entries noted k a b (Err fault) w f = (fault, f)
 
-abbrev keys_in : Core → List Key
+abbrev pub keys_in : Core → List Key
 keys_in c = map (λ (r : Resident). r.key) c.pages
 
 module _ (c d : Core) (k : Key) where
@@ -185,7 +188,7 @@ at_most P (x ∷ xs) = go (P x) (at_most P xs)
     go true ih = omega (arith, ih)
     go false ih = omega (arith, ih)
 
-length_keys : (rs : List Resident) → length (map (λ (r : Resident). r.key) rs) ≡ length rs
+pub length_keys : (rs : List Resident) → length (map (λ (r : Resident). r.key) rs) ≡ length rs
 length_keys [] = refl
 length_keys (r ∷ rs) = ap suc (length_keys rs)
 
@@ -434,7 +437,79 @@ module _ {J : Type 0} (noted : J → History Entry → Type 0) (laws : Laws) (af
         | inr before ↦ ap (λ x. is_dirty o.core j && not x) before ∙ and_true (is_dirty o.core j)
       ]
 
-quota_most : (frames stripes number : ℕ) → quota_of frames stripes number ≤ frames + 1
+pub flush_closes : (e : Entry) → flushes e ≡ true → closes_nothing e ≡ true
+flush_closes (entry.Closing r) e = absurd cc
+flush_closes x e = refl
+
+-- a flush leaves which regions close
+pub flushes_close : (laws : Laws) {J : Type 0} (noted : J → History Entry → Type 0) (failed : Bool) (old new : StripeSeen J) → IsAtRest old.core → WroteBack 0 noted failed old new → ClosesSame old.core new.core
+flushes_close laws noted failed old new a w = closes_same laws noted w.entries old new a w.went (list_weaker flushes closes_nothing w.entries flush_closes w.pass)
+
+-- ---- a flush
+
+-- it ended, since nothing past the last page is dirty
+pub flushed : {J : Type 0} (noted : J → History Entry → Type 0) (laws : Laws) (after : Option Key) (o a : StripeSeen J) → Tried noted after false o a → next_dirty a.core after ≡ None → Did 0 noted WritesAll o a
+unfolding each_once
+flushed noted laws after o a t end = record {
+  entries = t.back.entries;
+  went = t.back.went;
+  how = record {
+    pass = t.back.pass;
+    none = t.back.fails;
+    once = (each_once noted laws after false o a t end).once;
+    clean = λ j. elim (cases_Bool (is_past after j)) [
+      | inl past ↦ clean_past noted laws after false o a t end j past
+      | inr before ↦ t.clean j before (none_failed_of j.region t.back.entries t.back.fails)
+    ];
+  };
+}
+
+-- or the write of the next page failed
+module _ {J : Type 0} (noted : J → History Entry → Type 0) (laws : Laws) (after : Option Key) (f : PageFault) (o a b : StripeSeen J)
+    (t : Tried noted after false o a) (next : IsNextToFlush a.core after f.key) (rest : IsAtRest b.core) (does : FailsToWrite f.key a.core b.core f) (went : FailsToWriteOut 0 noted f.key Flush a b f) where
+  more : Tried noted (Some f.key) true o b
+  more = tried_more noted laws after false true f.key o a b t next rest (f, does) (f, went)
+
+  clean_below : (j : Key) → is_below j f.key ≡ true → is_dirty b.core j ≡ false
+  clean_below j low = unwritten_dirty a.core b.core f.key f does j ∙ elim (cases_Bool (is_past after j)) [
+    | inl past ↦ passed noted laws after false true f.key o a b t next rest (f, does) (f, went) j (other j low) (below_apart j f.key low) past
+    | inr before ↦ t.clean j before (none_failed_of j.region t.back.entries t.back.fails)
+  ]
+    where
+      other : (j : Key) → is_below j f.key ≡ true → same f.key j ≡ false
+      other j low = false_from_ne_true (same f.key j) (λ e. let is = same-true f.key j e in let no : true ≡ false = sym low ∙ (ap (λ x. is_below x f.key) (sym is) ∙ not_below_self f.key) in cc)
+
+  stays_above : (j : Key) → is_below j f.key ≡ false → is_dirty b.core j ≡ is_dirty o.core j
+  stays_above j high = elim (cases_Bool (same f.key j)) [
+    | inl e ↦ unwritten_dirty a.core b.core f.key f does j ∙ t.ahead j (subst (λ (x : Key). is_past after x ≡ true) (same-true f.key j e) next.past)
+    | inr ne ↦ more.ahead j (above_other j f.key ne high)
+  ]
+
+  pub flush_failed : Did 0 noted (WritesUpTo f) o b
+  unfolding more tried_more
+  flush_failed = record {
+    entries = more.back.entries;
+    went = more.back.went;
+    how = record {
+      page = subst (λ s. has_page s f.key ≡ true) t.back.went.setup next.page;
+      before = t.back.entries;
+      is = refl;
+      pass = t.back.pass;
+      none = t.back.fails;
+      rising = more.rising;
+      each = more.each;
+      clean = clean_below;
+      stays = stays_above;
+    };
+  }
+
+  pub flush_failed_few : b.core.events ≤ a.core.events + 2
+  flush_failed_few = let n = went.events in omega (arith, n)
+
+  pub flush_failed_closes : IsAtRest o.core → ClosesSame o.core b.core
+  flush_failed_closes old = flushes_close laws noted true o b old more.back
+
+pub quota_most : (frames stripes number : ℕ) → quota_of frames stripes number ≤ frames + 1
 quota_most frames stripes number = go (nat_lt number (frames % stripes))
   where
     go : (b : Bool) → cond b (frames / stripes + 1) (frames / stripes) ≤ frames + 1

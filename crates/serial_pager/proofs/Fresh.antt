@@ -3,7 +3,7 @@ use Rattle.std.proofs.Common.{List, None, Option, Some, [], ap, arith, cond, fal
 use Rattle.page_base.specs.declared.keys.Key.{Key}
 use Rattle.page_base.specs.declared.keys.RegionShape.{RegionShape}
 use Rattle.page_base.specs.Lanes.{LaneSeen}
-use Rattle.page_model.specs.Core.{Core, LanePlace, RegionSeen, closes, is_home_place, place_passes}
+use Rattle.page_model.specs.Core.{Core, LanePlace, RegionSeen, closes, is_closing, is_home_place, place_passes}
 use Rattle.page_model.specs.Setups.{base_of, count_by, first_count, told_in}
 use Rattle.page_model.specs.Steps.{fresh_regions}
 use Rattle.stripe_core.specs.declared.config.StripeConfig.{StripeConfig}
@@ -52,9 +52,11 @@ fresh_rests c f = record {
   history = [];
   stands = f.stands;
   home = λ r lt. subst (λ (x : Core). r < length x.setup.shapes → place_passes is_home_place (slice_get x.regions r) ≡ true) (sym f.is) (λ low. fresh_home f.config.shapes.items f.lanes r f.can.lane_count low) lt;
-  stays = λ r. ap (λ (x : Core). closes (slice_get x.regions r)) f.is ∙ fresh_open f.config.shapes.items f.lanes r;
   bounded = subst (λ (x : Core). IsBounded x.setup) (sym f.is) (made_bounded f.config f.lanes f.can);
 }
+
+pub fresh_closes : (c : Core) → IsFresh c → (r : ℕ) → is_closing c r ≡ false
+fresh_closes c f r = ap (λ (x : Core). closes (slice_get x.regions r)) f.is ∙ fresh_open f.config.shapes.items f.lanes r
 
 as_told : (o : Option (List ℕ)) → cond (is_some o) o None ≡ o
 as_told None = refl

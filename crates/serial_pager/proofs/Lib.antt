@@ -6,6 +6,7 @@ pub mod Queues
 pub mod Regions
 pub mod Holds
 pub mod Goes
+pub mod Closed
 pub mod Measures
 pub mod Results
 pub mod Asks
@@ -25,4 +26,7 @@ pub mod Unmade
 pub mod Opening
 pub mod Kept
 pub mod Flushing
+pub mod Walks
+pub mod Clearing
+pub mod Walking
 pub mod Flushed

@@ -11,7 +11,7 @@ use Rattle.page_base.specs.Lanes.{Rose}
 use Rattle.page_base.specs.ListSeen.{spliced}
 use Rattle.page_model.specs.declared.entry.Entry.{Entry}
 use Rattle.page_model.specs.declared.entry.Entry.TheVariants as entry
-use Rattle.page_model.specs.Core.{Core, RegionSeen, Resident, dirties, is_dirty, is_present, protects, why_pending}
+use Rattle.page_model.specs.Core.{Core, RegionSeen, Resident, dirties, is_closing, is_dirty, is_present, protects, why_pending}
 use Rattle.page_model.specs.Faults.{is_write}
 use Rattle.page_model.specs.Setups.{Setup, has_page, is_told}
 use Rattle.page_model.specs.Steps as step
@@ -22,9 +22,10 @@ use Rattle.serial_pager.specs.Accesses.{AccessFails, NamesCount, is_read, serves
 use Rattle.serial_pager.specs.Goings.{Went, WentTo}
 use Rattle.serial_pager.specs.InsideGoings.{WentBy}
 use Rattle.serial_pager.specs.Holdings.{CountsGrow, HoldsSame, bytes_or, count_at, held, is_for_store, owes, told}
-use Rattle.serial_pager.specs.Rests.{IsAtRest}
+use Rattle.serial_pager.specs.Rests.{ClosesSame, IsAtRest}
 use Rattle.serial_pager.specs.Seen.{StripeSeen}
 use Rattle.serial_pager.specs.InsideServices.{Faults, Raises, Serves, is_shut, why_shut}
+use Rattle.serial_pager.proofs.Closed.{closes_nothing, closes_same}
 use Rattle.serial_pager.proofs.Goes.{by_none, by_twice, to_after, to_these}
 use Rattle.serial_pager.proofs.Holds.{flat_kept, flat_or_none, held_is, stores_nothing}
 use Rattle.serial_pager.proofs.Measures.{cases_key, misses, own, turns_left}
@@ -59,6 +60,18 @@ serve_stores k reasons x e = refl
 
 pub serving_stores_nothing : (k : Key) (reasons : Why → Bool) (es : List Entry) → list_all (serves k reasons) es ≡ true → list_all stores_nothing es ≡ true
 serving_stores_nothing k reasons es e = list_weaker (serves k reasons) stores_nothing es (serve_stores k reasons) e
+
+-- ---- which regions close
+
+serve_closes : (k : Key) (reasons : Why → Bool) (e : Entry) → serves k reasons e ≡ true → closes_nothing e ≡ true
+serve_closes k reasons (entry.Closing r) e = absurd cc
+serve_closes k reasons x e = refl
+
+pub serving_closes_nothing : (k : Key) (reasons : Why → Bool) (es : List Entry) → list_all (serves k reasons) es ≡ true → list_all closes_nothing es ≡ true
+serving_closes_nothing k reasons es e = list_weaker (serves k reasons) closes_nothing es (serve_closes k reasons) e
+
+pub serving_closes : (laws : Laws) {J : Type 0} (noted : J → History Entry → Type 0) (k : Key) (reasons : Why → Bool) (es : List Entry) (old new : StripeSeen J) → IsAtRest old.core → Went 0 noted es old new → list_all (serves k reasons) es ≡ true → ClosesSame old.core new.core
+serving_closes laws noted k reasons es old new rest w pass = closes_same laws noted es old new rest w (serving_closes_nothing k reasons es pass)
 
 -- ---- the counts
 
@@ -202,14 +215,14 @@ module _ {J : Type 0} (noted : J → History Entry → Type 0) (stores : Bool) (
       raises_no_more stores k why a.core b.core q.raises (subst (λ o. misses stores o ≡ true) pages q.missed) (subst (λ o. own stores o (Some (record { key = k; why = why })) ≡ 0) pages q.right)
 
   -- a whole turn
-  pub turned_once : (laws : Laws) (why : Why) (o a b c : StripeSeen J) → Turned noted stores reasons k owed o a → Asked why a b → IsAtRest c.core → WentBy 0 noted (serves k reasons) b c → Serves k b.core c.core → Turned noted stores reasons k owed o c
-  turned_once laws why o a b c t q rest went w = record {
+  pub turned_once : (laws : Laws) (why : Why) (o a b c : StripeSeen J) → Turned noted stores reasons k owed o a → Asked why a b → is_closing b.core k.region ≡ false → IsAtRest c.core → WentBy 0 noted (serves k reasons) b c → Serves k b.core c.core → Turned noted stores reasons k owed o c
+  turned_once laws why o a b c t q open_ rest went w = record {
     rest = rest;
     went = by_twice noted (serves k reasons) o a c t.went (by_twice noted (serves k reasons) a b c q.went went);
     owes_ = λ j e. asked_owes why o a b t q j (serves_owe laws k b.core c.core q.rest w j e);
     counts = counts_twice o.core a.core c.core t.counts (counts_twice a.core b.core c.core (raises_grow k why a.core b.core q.raises) (serves_grow laws k b.core c.core q.rest w));
     fewer =
-        let less = serves_fewer laws stores k b.core c.core q.rest w q.missed in
+        let less = serves_fewer laws stores k b.core c.core q.rest open_ w q.missed in
         let most = asked_turns why a b q in
         let one = raises_events k why a.core b.core q.raises in
         let two = serves_events k b.core c.core w in
@@ -217,11 +230,18 @@ module _ {J : Type 0} (noted : J → History Entry → Type 0) (stores : Bool) (
         omega (arith, less, most, one, two, sofar);
   }
 
-  pub turned_less : (laws : Laws) (why : Why) (a b c : StripeSeen J) → Asked why a b → Serves k b.core c.core → turns_left stores c.core k < turns_left stores a.core k
-  turned_less laws why a b c q w =
-      let less = serves_fewer laws stores k b.core c.core q.rest w q.missed in
+  pub turned_less : (laws : Laws) (why : Why) (a b c : StripeSeen J) → Asked why a b → is_closing b.core k.region ≡ false → Serves k b.core c.core → turns_left stores c.core k < turns_left stores a.core k
+  turned_less laws why a b c q open_ w =
+      let less = serves_fewer laws stores k b.core c.core q.rest open_ w q.missed in
       let most = asked_turns why a b q in
       omega (arith, less, most)
+
+  -- the page's region is open still
+  pub turned_open : (laws : Laws) (o a : StripeSeen J) → IsAtRest o.core → Turned noted stores reasons k owed o a → is_closing o.core k.region ≡ false → is_closing a.core k.region ≡ false
+  turned_open laws o a rest t open_ = serving_closes laws noted k reasons t.went.entries o a rest t.went.went t.went.pass k.region ∙ open_
+
+  pub asked_open : (laws : Laws) (why : Why) (o a b : StripeSeen J) → IsAtRest o.core → Turned noted stores reasons k owed o a → Asked why a b → is_closing o.core k.region ≡ false → is_closing b.core k.region ≡ false
+  asked_open laws why o a b rest t q open_ = serving_closes laws noted k reasons q.went.entries a b t.rest q.went.went q.went.pass k.region ∙ turned_open laws o a rest t open_
 
   -- a turn at which the store fails
   pub failed_access : (why : Why) (o a b c : StripeSeen J) (f : PageFault) → Turned noted stores reasons k owed o a → Asked why a b → AccessFails 0 noted k reasons (is_dirty b.core) b c f → AccessFails 0 noted k reasons owed o c f
@@ -273,6 +293,12 @@ module _ {J : Type 0} (noted : J → History Entry → Type 0) (stores : Bool) (
   failed_holds laws o c f old new w = elim w [
     | inl read ↦ holds_same laws noted (entry.ReadFailed f.key f.faults ∷ read.went.before) o c old new read.went.went (serving_stores_nothing k reasons read.went.before read.went.pass)
     | inr write ↦ holds_same laws noted (entry.WriteFailed f.key f.faults ∷ write.went.before) o c old new write.went.went (serving_stores_nothing k reasons write.went.before write.went.pass)
+  ]
+
+  pub failed_closes : (laws : Laws) (o c : StripeSeen J) (f : PageFault) → IsAtRest o.core → AccessFails 0 noted k reasons owed o c f → ClosesSame o.core c.core
+  failed_closes laws o c f old w = elim w [
+    | inl read ↦ closes_same laws noted (entry.ReadFailed f.key f.faults ∷ read.went.before) o c old read.went.went (serving_closes_nothing k reasons read.went.before read.went.pass)
+    | inr write ↦ closes_same laws noted (entry.WriteFailed f.key f.faults ∷ write.went.before) o c old write.went.went (serving_closes_nothing k reasons write.went.before write.went.pass)
   ]
 
   pub failed_setup : (o c : StripeSeen J) (f : PageFault) → AccessFails 0 noted k reasons owed o c f → c.core.setup ≡ o.core.setup

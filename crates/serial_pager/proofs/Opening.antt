@@ -8,7 +8,7 @@ use Rattle.page_base.specs.ListSeen.{ListSeen}
 use Rattle.page_base.specs.Lanes.{LaneSeen}
 use Rattle.page_base.specs.declared.keys.Key.{Key}
 use Rattle.page_base.specs.declared.keys.RegionShape.{RegionShape}
-use Rattle.page_model.specs.Core.{Core, LanePlace, Home, RegionSeen}
+use Rattle.page_model.specs.Core.{Core, LanePlace, Home, RegionSeen, is_closing}
 use Rattle.page_model.specs.Setups.{Setup, base_of, told_in, first_count, count_by}
 use Rattle.page_model.specs.Stands.{StandsFor}
 use Rattle.page_model.specs.Steps.{fresh, fresh_regions}
@@ -18,7 +18,7 @@ use Rattle.serial_pager.specs.declared.pager.PagerConfig.{PagerConfig}
 use Rattle.serial_pager.specs.Seen.{StripeSeen}
 use Rattle.serial_pager.specs.Rests.{IsAtRest}
 use Rattle.serial_pager.specs.Holdings as stripe
-use Rattle.serial_pager.specs.Pagers.{PagerSeen, AreLanesOfCore, AreRowsOf, rows_by, config_of, CanOpen, IsOpened, core_in, held_in, owes_in, count_in, stripe_at, held, owes, count_at}
+use Rattle.serial_pager.specs.Pagers.{PagerSeen, AreLanesOfCore, AreRowsOf, rows_by, config_of, CanOpen, IsOpened, core_in, closes_in, held_in, owes_in, count_in, stripe_at, closes_at, held, owes, count_at}
 use Rattle.serial_pager.specs.Sound.{seen_of}
 use Rattle.serial_pager.specs.InsideSound.{HandsBack, IsStripe, IsSound}
 use Rattle.serial_pager.proofs.Unmade.{some_is, map_append, reverse_snoc}
@@ -65,6 +65,7 @@ pub record IsNew {J : Type 0} (c : PagerConfig) (s : ℕ) (x : StripeSeen J) : T
   pub can : CanMake (config_of c s) (lanes_of x)
   pub stands : StandsFor [] x.core
   pub rest : IsAtRest x.core
+  pub open_ : (r : ℕ) → is_closing x.core r ≡ false
   pub owes : (k : Key) → stripe.owes x.core k ≡ false
   pub held : (k : Key) → stripe.held x.core k ≡ base_of x.core.setup k
   pub counts : (r : ℕ) → stripe.count_at x.core r ≡ first_count x.core.setup r
@@ -90,7 +91,7 @@ module _ {J S : Type 0} (seen : S → LaneSeen) (c : PagerConfig) (cfg : StripeC
     can_next = subst (λ (k : StripeConfig). CanMake k (map seen own.items)) (sym m.config)
         (can.each (length stripes) (map seen own.items) (ap (λ rs. slice_get rs (length stripes)) rows_next ∙ ap (slice_get (map lanes_of stripes ++ (map seen own.items ∷ reverse (rows_by seen home)))) (sym (length-map stripes (lanes_of {J = J}))) ∙ at_seam (map lanes_of stripes) (reverse (rows_by seen home)) (map seen own.items)))
 
-    module _ (pop_noted : noted ≡ left ++ journal ∷ []) (x : StripeSeen J) (core : x.core ≡ fresh (setup_of cfg (map seen own.items))) (its : x.journal ≡ journal) (stood : StandsFor [] x.core) (rest : IsAtRest x.core) (owed : (k : Key) → stripe.owes x.core k ≡ false) (holds : (k : Key) → stripe.held x.core k ≡ base_of x.core.setup k) (counted : (r : ℕ) → stripe.count_at x.core r ≡ first_count x.core.setup r) where
+    module _ (pop_noted : noted ≡ left ++ journal ∷ []) (x : StripeSeen J) (core : x.core ≡ fresh (setup_of cfg (map seen own.items))) (its : x.journal ≡ journal) (stood : StandsFor [] x.core) (rest : IsAtRest x.core) (open_ : (r : ℕ) → is_closing x.core r ≡ false) (owed : (k : Key) → stripe.owes x.core k ≡ false) (holds : (k : Key) → stripe.held x.core k ≡ base_of x.core.setup k) (counted : (r : ℕ) → stripe.count_at x.core r ≡ first_count x.core.setup r) where
       own_lanes : lanes_of x ≡ map seen own.items
       own_lanes = ap (λ (d : Core). d.setup.lanes) core
 
@@ -100,6 +101,7 @@ module _ {J S : Type 0} (seen : S → LaneSeen) (c : PagerConfig) (cfg : StripeC
         can = subst (λ (l : List LaneSeen). CanMake (config_of c (length stripes)) l) (sym own_lanes) (subst (λ (k : StripeConfig). CanMake k (map seen own.items)) m.config can_next);
         stands = stood;
         rest = rest;
+        open_ = open_;
         owes = owed;
         held = holds;
         counts = counted;
@@ -201,6 +203,7 @@ module _ {J S : Type 0} (seen : S → LaneSeen) (c : PagerConfig) (cfg : StripeC
       each = λ s row j x e f at. let here = sym (in_p s) ∙ at in let n = m.made s x here in record { core = n.core ∙ ap (λ l. fresh (setup_of (config_of c s) l)) (row_of s row x e here); stands = n.stands; journal = journal_of s j x f here };
       holds = λ k row e. held_go k row e (slice_get stripes (stripe_at p k)) refl;
       owes = λ k. owes_go k (slice_get stripes (stripe_at p k)) refl;
+      open_ = λ s r. open_go s r (slice_get stripes s) refl;
       counts = λ s r row e. counts_go s r row e (slice_get stripes s) refl;
     }
       where
@@ -217,6 +220,10 @@ module _ {J S : Type 0} (seen : S → LaneSeen) (c : PagerConfig) (cfg : StripeC
         owes_go : (k : Key) (o : Option (StripeSeen J)) → slice_get stripes (stripe_at p k) ≡ o → owes p k ≡ false
         owes_go k None at = ap (λ o. owes_in (core_in o) k) (in_p (stripe_at p k) ∙ at)
         owes_go k (Some x) at = ap (λ o. owes_in (core_in o) k) (in_p (stripe_at p k) ∙ at) ∙ (m.made (stripe_at p k) x at).owes k
+
+        open_go : (s r : ℕ) (o : Option (StripeSeen J)) → slice_get stripes s ≡ o → closes_at p s r ≡ false
+        open_go s r None at = ap (λ o. closes_in (core_in o) r) (in_p s ∙ at)
+        open_go s r (Some x) at = ap (λ o. closes_in (core_in o) r) (in_p s ∙ at) ∙ (m.made s x at).open_ r
 
         counts_go : (s r : ℕ) (row : List LaneSeen) → slice_get rows s ≡ Some row → (o : Option (StripeSeen J)) → slice_get stripes s ≡ o → count_at p s r ≡ count_by (slice_get row r)
         counts_go s r row e None at = absurd (gone s row e at)

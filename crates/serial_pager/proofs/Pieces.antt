@@ -9,7 +9,7 @@ use Rattle.page_base.specs.declared.keys.Why.{Why}
 use Rattle.page_base.specs.Lanes.{Rose}
 use Rattle.page_model.specs.declared.entry.Entry.{Entry}
 use Rattle.page_model.specs.declared.entry.Entry.TheVariants.{ReadFailed, WriteFailed}
-use Rattle.page_model.specs.Core.{Core, reads_out, frames_held}
+use Rattle.page_model.specs.Core.{Core, is_closing, reads_out, frames_held}
 use Rattle.page_model.specs.Events.{InPage}
 use Rattle.page_model.specs.Setups as setup
 use Rattle.page_model.specs.Setups.{Setup, quota}
@@ -17,17 +17,17 @@ use Rattle.page_model.specs.Stands.{StandsFor}
 use Rattle.stripe_core.specs.declared.config.StripeConfig.{StripeConfig}
 use Rattle.serial_pager.specs.declared.fault.PageFault.{PageFault}
 use Rattle.serial_pager.specs.Seen.{StripeSeen}
-use Rattle.serial_pager.specs.Rests.{IsAtRest}
+use Rattle.serial_pager.specs.Rests.{ClosesSame, IsAtRest}
 use Rattle.serial_pager.specs.Goings.{Went, WentTo}
 use Rattle.serial_pager.specs.Accesses.{NamesCount, WriteFails, AccessFails, serves}
 use Rattle.serial_pager.specs.Holdings as stripe
-use Rattle.serial_pager.specs.Pagers.{PagerSeen, core_in, has_key, stripe_at, count_at, IsPiece, IsSame, IsWithin, WentToIn, PieceFails, NamesFault, made_in}
+use Rattle.serial_pager.specs.Pagers.{PagerSeen, core_in, core_at, closes_in, has_key, stripe_at, count_at, IsPiece, IsSame, IsWithin, WentToIn, PieceFails, NamesFault, made_in}
 use Rattle.serial_pager.specs.Sound.{seen_of}
 use Rattle.serial_pager.specs.InsideSound.{IsStripe, IsSound}
 use Rattle.serial_pager.proofs.Goes.{went_nowhere}
 use Rattle.serial_pager.proofs.Keys.{same-true}
 use Rattle.serial_pager.proofs.Lists.{slice_set_same, slice_set_other}
-use Rattle.serial_pager.proofs.Stripes.{as_many, pages_of_stripe, stripe_of_pages, setups_same, owes_was, count_here, count_was}
+use Rattle.serial_pager.proofs.Stripes.{as_many, closes_alike, pages_of_stripe, stripe_of_pages, setups_same, owes_was, count_here, count_was}
 use Rattle.serial_pager.proofs.Unmade.{some_is}
 
 -- stripe s is there, and its core is that of stripe s
@@ -50,18 +50,22 @@ module _ {J : Type 0} (p : PagerSeen J) (s : ℕ) (x : StripeSeen J) (t : Touche
     inside = subst (λ n. place + len ≤ n) (sym t.part.page_size) piece.within;
   }
 
+  pub piece_open : (k : Key) (place len : ℕ) → IsPiece p k place len → s ≡ stripe_at p k → is_closing x.core k.region ≡ false
+  piece_open k place len piece e = sym (ap (λ o. closes_in o k.region) (ap (core_at p) (sym e) ∙ ap core_in t.was)) ∙ piece.open_
+
   pub few_is : (more : ℕ) → p.spent + more ≤ 2 ^ 44 → x.core.events + more * 65536 ≤ 2 ^ 62
   few_is more few = omega (arith, t.part.few)
 
 -- ---- afterwards
 
 module _ {J : Type 0} (old new : PagerSeen J) (s : ℕ) (x y : StripeSeen J) (t : Touches old s x) (is : new.stripes ≡ slice_set old.stripes s y) (shapes : new.shapes ≡ old.shapes) (size : new.page_size ≡ old.page_size) (setup : y.core.setup ≡ x.core.setup) where
-  pub same_on : IsSame old new
-  same_on = record {
+  pub same_on : ClosesSame x.core y.core → IsSame old new
+  same_on closes = record {
     page_size = size;
     shapes = shapes;
     stripes = as_many old new s x y t.was is shapes;
     setups = setups_same old new s x y t.was is shapes setup;
+    closes = closes_alike old new s x y t.was is shapes closes;
   }
 
   part_on : (more : ℕ) → new.spent ≡ old.spent + more → IsAtRest y.core → y.core.events ≤ x.core.events + more * 65536 → IsStripe new s y.core

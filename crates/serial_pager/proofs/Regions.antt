@@ -1,8 +1,8 @@
 -- Regions, after one of their lanes went out and came back.
-use Rattle.std.proofs.Common.{List, None, Option, Some, ap, arith, false, inl, inr, refl, slice_get, subst, sym, true, ℕ, ◌∙◌, ◌≡◌, ◌≤◌}
+use Rattle.std.proofs.Common.{List, None, Option, Some, ap, arith, inl, inr, refl, slice_get, subst, sym, true, ℕ, ◌∙◌, ◌≡◌, ◌≤◌}
 use Rattle.std.proofs.lemmas.Bool.{cases_eq}
 use Rattle.page_base.specs.Lanes.{LaneSeen}
-use Rattle.page_model.specs.Core.{RegionSeen, LanePlace, Home, closes, is_home_place, place_passes}
+use Rattle.page_model.specs.Core.{RegionSeen, LanePlace, Home, is_home_place, place_passes}
 use Rattle.page_model.specs.Steps.{on_region, put_back}
 use Rattle.serial_pager.specs.Holdings.{count_of_region}
 use Rattle.serial_pager.proofs.Lists.{slice_set_same, slice_set_other}
@@ -26,20 +26,18 @@ pub record Back (r : ℕ) (lane : LaneSeen) (gs hs : List RegionSeen) : Type 0 w
   pub was : slice_get gs r ≡ Some old
   pub is : slice_get hs r ≡ Some new
   pub place : new.place ≡ Home lane
-  pub closing : new.closing ≡ old.closing
   pub others : (q : ℕ) → (q ≡ r → ⊥) → slice_get hs q ≡ slice_get gs q
 
 -- two changes of one region, the second of which puts its lane home
 pub back_twice : (r : ℕ) (lane : LaneSeen) (gs : List RegionSeen) (f g : RegionSeen → RegionSeen) (old : RegionSeen) → slice_get gs r ≡ Some old
-    → ((x : RegionSeen) → (f x).closing ≡ x.closing) → ((x : RegionSeen) → (g x).closing ≡ x.closing) → ((x : RegionSeen) → (g x).place ≡ Home lane)
+    → ((x : RegionSeen) → (g x).place ≡ Home lane)
     → Back r lane gs (on_region r g (on_region r f gs))
-back_twice r lane gs f g old e first second home = record {
+back_twice r lane gs f g old e home = record {
   old = old;
   new = g (f old);
   was = e;
   is = on_region_here r g (on_region r f gs) (f old) (on_region_here r f gs old e);
   place = home (f old);
-  closing = second (f old) ∙ first old;
   others = λ q ne. on_region_other r g (on_region r f gs) q ne ∙ on_region_other r f gs q ne;
 }
 
@@ -48,14 +46,6 @@ module _ (r : ℕ) (lane : LaneSeen) (gs hs : List RegionSeen) (b : Back r lane 
   back_home q e = elim (cases_eq q r) [
     | inl is ↦ let P : ℕ → Type 0 = λ i. place_passes is_home_place (slice_get hs i) ≡ true in subst P (sym is) (ap (place_passes is_home_place) b.is ∙ ap is_home_place b.place)
     | inr ne ↦ ap (place_passes is_home_place) (b.others q ne) ∙ e
-  ]
-
-  pub back_open : (q : ℕ) → closes (slice_get gs q) ≡ false → closes (slice_get hs q) ≡ false
-  back_open q e = elim (cases_eq q r) [
-    | inl is ↦
-        let P : ℕ → Type 0 = λ i. closes (slice_get gs i) ≡ false → closes (slice_get hs i) ≡ false in
-        subst P (sym is) (λ x. ap closes b.is ∙ (b.closing ∙ (sym (ap closes b.was) ∙ x))) e
-    | inr ne ↦ ap closes (b.others q ne) ∙ e
   ]
 
   pub back_count : count_of_region (slice_get hs r) ≡ lane.count

@@ -71,25 +71,25 @@ module _ (laws : Laws) (c d : Core) (rest : IsAtRest c) where
   back_filled w =
       let g = at_home w.key.region (laws.knows.read rest.history c w.key rest.stands w.next).home in
       subst (λ (hs : List RegionSeen). Back w.key.region w.lane c.regions hs) (sym (ap (λ (x : Core). x.regions) w.is))
-      (back_twice w.key.region w.lane c.regions (placed (Reading w.key c.events (why_pending c w.key))) (placed (Home w.lane)) g.0 g.1 (λ x. refl) (λ x. refl) (λ x. refl))
+      (back_twice w.key.region w.lane c.regions (placed (Reading w.key c.events (why_pending c w.key))) (placed (Home w.lane)) g.0 g.1 (λ x. refl))
 
   pub back_missed : (f : PageFault) (w : Misses c d f) → Back f.key.region w.lane c.regions d.regions
   back_missed f w =
       let g = at_home f.key.region (laws.knows.read rest.history c f.key rest.stands w.next).home in
       subst (λ (hs : List RegionSeen). Back f.key.region w.lane c.regions hs) (sym (ap (λ (x : Core). x.regions) w.is))
-      (back_twice f.key.region w.lane c.regions (placed (Reading f.key c.events (why_pending c f.key))) (read_missed f.key w.lane w.lane.count) g.0 g.1 (λ x. refl) (λ x. refl) (λ x. refl))
+      (back_twice f.key.region w.lane c.regions (placed (Reading f.key c.events (why_pending c f.key))) (read_missed f.key w.lane w.lane.count) g.0 g.1 (λ x. refl))
 
   pub back_written : (k : Key) → is_home c k.region ≡ true → (w : Writes k c d) → Back k.region w.lane c.regions d.regions
   back_written k home w =
       let g = at_home k.region home in
       subst (λ (hs : List RegionSeen). Back k.region w.lane c.regions hs) (sym (ap (λ (x : Core). x.regions) w.is))
-      (back_twice k.region w.lane c.regions (placed (Writing k c.events)) (placed (Home w.lane)) g.0 g.1 (λ x. refl) (λ x. refl) (λ x. refl))
+      (back_twice k.region w.lane c.regions (placed (Writing k c.events)) (placed (Home w.lane)) g.0 g.1 (λ x. refl))
 
   pub back_unwritten : (k : Key) → is_home c k.region ≡ true → (f : PageFault) (w : FailsToWrite k c d f) → Back k.region w.lane c.regions d.regions
   back_unwritten k home f w =
       let g = at_home k.region home in
       subst (λ (hs : List RegionSeen). Back k.region w.lane c.regions hs) (sym (ap (λ (x : Core). x.regions) w.is))
-      (back_twice k.region w.lane c.regions (placed (Writing k c.events)) (placed (Home w.lane)) g.0 g.1 (λ x. refl) (λ x. refl) (λ x. refl))
+      (back_twice k.region w.lane c.regions (placed (Writing k c.events)) (placed (Home w.lane)) g.0 g.1 (λ x. refl))
 
   pub rests_filled : (h : History Entry) → StandsFor h d → Fills c d → IsAtRest d
   rests_filled h st w = rests_back c d h w.key.region w.lane rest st (ap (λ (x : Core). x.setup) w.is) (back_filled w)

@@ -63,7 +63,7 @@ pub record Oldest (c : Core) (k : Key) : Type 0 where
   pub there : page_in c.pages k ≡ Some page
 
 -- a page may leave, since every lane is home
-idle_page : (laws : Laws) (c : Core) → IsAtRest c → (k : Key) → has_page c.setup k ≡ true → is_writing c k ≡ false
+pub idle_page : (laws : Laws) (c : Core) → IsAtRest c → (k : Key) → has_page c.setup k ≡ true → is_writing c k ≡ false
 idle_page laws c rest k page =
     let here = (laws.knows.here c k.region (rest.home k.region (laws.pages.region c.setup k page))).1 in
     ap (place_passes (λ place. writes place k)) here.is ∙ ap (λ place. writes place k) here.home

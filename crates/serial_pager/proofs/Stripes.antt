@@ -7,11 +7,12 @@ use Rattle.page_base.specs.declared.keys.Key.{Key}
 use Rattle.page_base.specs.declared.keys.RegionShape.{RegionShape}
 use Rattle.page_base.specs.Pages.{stripe_of}
 use Rattle.page_model.specs.Core.{Core}
+use Rattle.serial_pager.specs.Rests.{ClosesSame}
 use Rattle.page_model.specs.Setups as setup
 use Rattle.page_model.specs.Setups.{Setup}
 use Rattle.serial_pager.specs.Seen.{StripeSeen}
 use Rattle.serial_pager.specs.Holdings as stripe
-use Rattle.serial_pager.specs.Pagers.{PagerSeen, group_in, region_has_page, core_in, held_in, owes_in, count_in, core_at, has_key, is_writable, may_store, stripe_at, held, owes, count_at, setup_at, journals_made, HoldsSame, CountsGrow}
+use Rattle.serial_pager.specs.Pagers.{PagerSeen, group_in, region_has_page, core_in, closes_in, held_in, owes_in, count_in, core_at, closes_at, has_key, is_writable, may_store, stripe_at, held, owes, count_at, setup_at, journals_made, HoldsSame, CountsGrow}
 use Rattle.serial_pager.specs.InsideSound.{IsStripe}
 use Rattle.serial_pager.proofs.Lists.{slice_set_same, slice_set_other, slice_set_length}
 use Rattle.serial_pager.proofs.Unmade.{some_is}
@@ -85,6 +86,12 @@ module _ {J : Type 0} (old new : PagerSeen J) (s : ℕ) (x y : StripeSeen J) (wa
   setups_same e t = elim (cases_eq t s) [
     | inl here ↦ ap (setup_at new) here ∙ ap (option_map (λ (c : Core). c.setup)) core_here ∙ ap (λ (u : Setup). Some u) e ∙ sym (ap (option_map (λ (c : Core). c.setup)) core_was) ∙ sym (ap (setup_at old) here)
     | inr other ↦ ap (option_map (λ (c : Core). c.setup)) (core_other t other)
+  ]
+
+  pub closes_alike : ClosesSame x.core y.core → (t r : ℕ) → closes_at new t r ≡ closes_at old t r
+  closes_alike same t r = elim (cases_eq t s) [
+    | inl here ↦ ap (λ n. closes_at new n r) here ∙ (ap (λ o. closes_in o r) core_here ∙ (same r ∙ (sym (ap (λ o. closes_in o r) core_was) ∙ sym (ap (λ n. closes_at old n r) here))))
+    | inr other ↦ ap (λ o. closes_in o r) (core_other t other)
   ]
 
   pub journals_same : {M : Type 0} (made_with : J → M) → made_with y.journal ≡ made_with x.journal → journals_made made_with new ≡ journals_made made_with old

@@ -89,8 +89,8 @@ module _ (laws : Laws) (stores : Bool) (k : Key) (c d : Core) (rest : IsAtRest c
             ]
       ]
 
-  pub drops_fewer : Drops c d → turns_left stores d k < turns_left stores c k
-  drops_fewer w =
+  pub drops_fewer : is_closing c k.region ≡ false → Drops c d → turns_left stores d k < turns_left stores c k
+  drops_fewer open_ w =
       let pages : d.pages ≡ c.pages = ap (λ (x : Core). x.pages) w.is in
       queue_less w.key waits (ap (λ (x : Core). x.queue) w.is) (inl (ap (λ rs. page_in rs k) pages)) (λ jk. mine jk (ap (λ rs. page_in rs k) pages))
     where
@@ -119,7 +119,7 @@ module _ (laws : Laws) (stores : Bool) (k : Key) (c d : Core) (rest : IsAtRest c
           let key : p.key ≡ k = n.2 ∙ jk in
           let stale : is_stale c p ≡ true = find_passes (is_stale c) c.queue p n.1 in
           let wrong : (is_protected_why p.why && not (is_present c p.key)) ≡ true = elim (or_cases (is_closing c p.key.region) (is_protected_why p.why && not (is_present c p.key)) stale) [
-            | inl closing ↦ let open_ = rest.stays p.key.region in absurd cc
+            | inl closing ↦ absurd (let here : is_closing c p.key.region ≡ false = ap (λ (x : Key). is_closing c x.region) key ∙ open_ in cc)
             | inr x ↦ x
           ] in
           let parts = and_parts (is_protected_why p.why) (not (is_present c p.key)) wrong in
@@ -364,9 +364,9 @@ raises_no_more stores k why c d w miss right = elim w [
 ]
 
 -- what serves an access that misses leaves it fewer turns
-pub serves_fewer : (laws : Laws) (stores : Bool) (k : Key) (c d : Core) → IsAtRest c → Serves k c d → misses stores (page_in c.pages k) ≡ true → turns_left stores d k < turns_left stores c k
-serves_fewer laws stores k c d rest w miss = elim w [
-  | inl drops ↦ drops_fewer laws stores k c d rest drops
+pub serves_fewer : (laws : Laws) (stores : Bool) (k : Key) (c d : Core) → IsAtRest c → is_closing c k.region ≡ false → Serves k c d → misses stores (page_in c.pages k) ≡ true → turns_left stores d k < turns_left stores c k
+serves_fewer laws stores k c d rest open_ w miss = elim w [
+  | inl drops ↦ drops_fewer laws stores k c d rest open_ drops
   | inr x ↦ elim x [
     | inl opens ↦ opens_fewer laws stores k c d rest opens
     | inr y ↦ elim y [

@@ -1,8 +1,9 @@
--- How a stripe and its journal go on.
-use Rattle.std.specs.Prelude.{◌≡◌, ℕ, ◌+◌, true, Bool, List, ◌∷◌, ◌++◌, length}
+-- How a stripe and its journal go on, and several of them.
+use Rattle.std.specs.Prelude.{◌≡◌, ℕ, ◌+◌, ◌<◌, true, Bool, List, [], ◌∷◌, ◌++◌, length, slice_get, Some}
 use Rattle.std.specs.List.{list_all}
 use Rattle.histories.specs.Histories.{History, by}
 use Rattle.page_model.specs.declared.entry.Entry.{Entry}
+use Rattle.page_model.specs.Core.{Core}
 use Rattle.page_model.specs.Stands.{StandsFor}
 use Rattle.serial_pager.specs.Seen.{StripeSeen}
 
@@ -20,3 +21,32 @@ module _ {J : Type 0} where
     pub before : List Entry
     pub pass : list_all passes before ≡ true
     pub went : Went owner has_noted (last ∷ before) old new
+
+  -- By entries that did this to the data.
+  pub record Did (owner : ℕ) (has_noted : J → History Entry → Type 0) (How : Core → List Entry → Core → Type 0) (old new : StripeSeen J) : Type 0 where
+    pub entries : List Entry
+    pub went : Went owner has_noted entries old new
+    pub how : How old.core entries new.core
+
+  -- ---- the stripes of a list, by their numbers
+
+  -- each made these entries, the newest first
+  abbrev pub WentEach : (owner : ℕ) (has_noted : J → History Entry → Type 0) → (made : ℕ → List Entry) → (old new : List (StripeSeen J)) → Type 0
+  WentEach owner has_noted made old new =
+      (s : ℕ) (x y : StripeSeen J) → slice_get old s ≡ Some x → slice_get new s ≡ Some y → Went owner has_noted (made s) x y
+
+  -- each did this by its entries
+  pub record EachDid (owner : ℕ) (has_noted : J → History Entry → Type 0) (How : Core → List Entry → Core → Type 0) (old new : List (StripeSeen J)) : Type 0 where
+    pub made : ℕ → List Entry  -- by the stripe's number
+    pub went : WentEach owner has_noted made old new
+    pub how : (s : ℕ) (x y : StripeSeen J) → slice_get old s ≡ Some x → slice_get new s ≡ Some y → How x.core (made s) y.core
+
+  -- the stripes below one did this, that one failed so, and those above it made nothing
+  pub record OneFailed (owner : ℕ) (has_noted : J → History Entry → Type 0) (How Fails : Core → List Entry → Core → Type 0) (old new : List (StripeSeen J)) : Type 0 where
+    pub stripe : ℕ
+    pub below : stripe < length old
+    pub made : ℕ → List Entry  -- by the stripe's number
+    pub went : WentEach owner has_noted made old new
+    pub before : (s : ℕ) (x y : StripeSeen J) → s < stripe → slice_get old s ≡ Some x → slice_get new s ≡ Some y → How x.core (made s) y.core
+    pub fails : (x y : StripeSeen J) → slice_get old stripe ≡ Some x → slice_get new stripe ≡ Some y → Fails x.core (made stripe) y.core
+    pub above : (s : ℕ) → stripe < s → made s ≡ []

@@ -13,7 +13,7 @@ use Rattle.serial_pager.specs.Goings.{Went}
 use Rattle.serial_pager.specs.Holdings as one
 use Rattle.serial_pager.specs.Holdings.{HoldsSame, CountsGrow}
 use Rattle.serial_pager.specs.Writings.{flushes, is_failed_write, LeavesClean, RoseAt, IsTried, TriesDirty}
-use Rattle.serial_pager.specs.Rests.{IsAtRest}
+use Rattle.serial_pager.specs.Rests.{ClosesSame, IsAtRest}
 use Rattle.serial_pager.specs.Pagers.{PagerSeen, AreLanesOfCore}
 
 -- the core is that of stripe s, and has few entries
@@ -44,10 +44,26 @@ pub record Flushes {J : Type 0} (x y : StripeSeen J) : Type 0 where
   pub owes : (k : Key) → one.owes y.core k ≡ true → one.owes x.core k ≡ true
   pub counts : CountsGrow x.core y.core
   pub tried : (r : ℕ) → r < regions x.core.setup → IsTried x.core y.core r
+  pub closes : ClosesSame x.core y.core
 
 -- each of these stripes has
 abbrev pub FlushesEach : {J : Type 0} → (old new : List (StripeSeen J)) → Type 0
 FlushesEach {J} old new = (s : ℕ) (x y : StripeSeen J) → slice_get old s ≡ Some x → slice_get new s ≡ Some y → Flushes x y
+
+-- a stripe went on: it is at rest, has few entries more, and closes as this says
+pub record Goes {J : Type 0} (Closes : Core → Core → Type 0) (x y : StripeSeen J) : Type 0 where
+  pub setup : y.core.setup ≡ x.core.setup
+  pub rest : IsAtRest y.core
+  pub few : y.core.events ≤ x.core.events + 2 ^ 22
+  pub closes : Closes x.core y.core
+
+-- each of these stripes did
+abbrev pub GoesEach : {J : Type 0} → (Closes : Core → Core → Type 0) → (old new : List (StripeSeen J)) → Type 0
+GoesEach {J} Closes old new = (s : ℕ) (x y : StripeSeen J) → slice_get old s ≡ Some x → slice_get new s ≡ Some y → Goes Closes x y
+
+-- each of these stripes has this region
+abbrev pub HasRegionEach : {J : Type 0} → (region : ℕ) → List (StripeSeen J) → Type 0
+HasRegionEach {J} region stripes = (s : ℕ) (x : StripeSeen J) → slice_get stripes s ≡ Some x → region < regions x.core.setup
 
 -- what these stripes' journals were made with
 abbrev pub all_made : {J M : Type 0} → (J → M) → List (StripeSeen J) → List M

@@ -5,7 +5,9 @@ pub mod Goings
 pub mod InsideGoings
 pub mod Accesses
 pub mod Writings
+pub mod Unmappings
 pub mod InsideServices
+pub mod InsideUnmappings
 pub mod Pagers
 pub mod Returned
 pub mod Sound

@@ -10,7 +10,7 @@ use Rattle.page_base.specs.Pages.{same, stripe_of}
 use Rattle.page_model.specs.declared.entry.Entry.{Entry}
 use Rattle.page_model.specs.declared.entry.Entry.TheVariants.{Load, Save, ReadFailed, WriteFailed}
 use Rattle.page_model.specs.Setups.{Setup, quota, told_in, count_by, origin_of}
-use Rattle.page_model.specs.Core.{Core}
+use Rattle.page_model.specs.Core.{Core, is_closing, is_unmapped}
 use Rattle.page_model.specs.Readers.{IsHere}
 use Rattle.page_model.specs.Stands.{StandsFor}
 use Rattle.page_model.specs.Steps.{fresh}
@@ -19,15 +19,19 @@ use Rattle.stripe_core.specs.Configs.{setup_of, CanMake}
 use Rattle.store_trait.specs.declared.mem_store.LaneSet.{LaneSet}
 use Rattle.page_base.specs.ListSeen.{ListSeen}
 use Rattle.serial_pager.specs.declared.fault.PageFault.{PageFault}
+use Rattle.serial_pager.specs.declared.fault.UnmapError.{UnmapError}
+use Rattle.serial_pager.specs.declared.fault.UnmapError.TheVariants as unmap_error
 use Rattle.serial_pager.specs.declared.pager.PagerConfig.{PagerConfig}
 use Rattle.serial_pager.specs.Seen.{StripeSeen}
 use Rattle.serial_pager.specs.Holdings as stripe
 use Rattle.serial_pager.specs.Holdings.{is_for_store}
 use Rattle.serial_pager.specs.Accesses.{serves, is_read}
-use Rattle.serial_pager.specs.Goings.{Went}
-use Rattle.serial_pager.specs.Writings.{flushes, is_failed_write, LeavesClean, TriesDirty}
+use Rattle.serial_pager.specs.Goings.{Went, EachDid, OneFailed}
+use Rattle.serial_pager.specs.Writings.{flushes, is_failed_write, LeavesClean, TriesDirty, WritesAll, WritesUpTo}
+use Rattle.serial_pager.specs.Unmappings.{Unmaps, FailsToUnmap}
 
--- the stripes in order of number; `spent` counts the pieces that were loaded or stored, and writing all dirty pages as MOST_STRIPES of them
+-- the stripes in order of number; `spent` counts the pieces that were loaded or stored, and each call that writes all dirty pages,
+-- flushes or unmaps as MOST_STRIPES of them
 pub record PagerSeen (J : Type 0) : Type 0 where
   pub page_size : ℕ
   pub shapes : List RegionShape  -- by the region's number
@@ -83,6 +87,10 @@ abbrev pub count_in : Option Core → ℕ → ℕ
 count_in None r = 0
 count_in (Some c) r = stripe.count_at c r
 
+abbrev pub closes_in : Option Core → ℕ → Bool
+closes_in None r = false
+closes_in (Some c) r = is_closing c r
+
 -- these lanes are the ones that one stripe has at home
 pub record AreLanesOfCore (c : Core) (row : List LaneSeen) : Type 0 where
   pub count : length row ≡ length c.setup.shapes
@@ -125,13 +133,22 @@ module _ {J : Type 0} where
   abbrev pub count_at : PagerSeen J → (stripe region : ℕ) → ℕ
   count_at p s r = count_in (core_at p s) r
 
+  -- the region closes in a stripe, or is unmapped there
+  abbrev pub closes_at : PagerSeen J → (stripe region : ℕ) → Bool
+  closes_at p s r = closes_in (core_at p s) r
+
+  -- the region is unmapped in every stripe
+  abbrev pub is_gone : PagerSeen J → ℕ → Bool
+  is_gone p r = list_all (λ (x : StripeSeen J). is_unmapped x.core r) p.stripes
+
   -- no more pages are resident in a stripe than it has frames
   abbrev pub IsWithin : PagerSeen J → Type 0
   IsWithin p = (s : ℕ) (c : Core) → core_at p s ≡ Some c → length c.pages ≤ quota c.setup
 
-  -- a piece in one page that lies in the region
+  -- a piece in one page that lies in the region, which doesn't close in its stripe
   pub record IsPiece (p : PagerSeen J) (k : Key) (place len : ℕ) : Type 0 where
     pub page : has_key p k ≡ true
+    pub open_ : closes_at p (stripe_at p k) k.region ≡ false
     pub some : 0 < len
     pub within : place + len ≤ p.page_size
 
@@ -139,12 +156,23 @@ module _ {J : Type 0} where
   abbrev pub setup_at : PagerSeen J → ℕ → Option Setup
   setup_at p s = option_map (λ (c : Core). c.setup) (core_at p s)
 
-  -- the same regions, and the same stripes as they were made
+  -- the same regions, and the same stripes as they were made, in which the same regions close
   pub record IsSame (old new : PagerSeen J) : Type 0 where
     pub page_size : new.page_size ≡ old.page_size
     pub shapes : new.shapes ≡ old.shapes
     pub stripes : length new.stripes ≡ length old.stripes
     pub setups : (s : ℕ) → setup_at new s ≡ setup_at old s
+    pub closes : (s r : ℕ) → closes_at new s r ≡ closes_at old s r
+
+  -- the same regions, and the same stripes as they were made, in which all regions but one close as before, and that one doesn't
+  -- open again
+  pub record ClosesOnly (region : ℕ) (old new : PagerSeen J) : Type 0 where
+    pub page_size : new.page_size ≡ old.page_size
+    pub shapes : new.shapes ≡ old.shapes
+    pub stripes : length new.stripes ≡ length old.stripes
+    pub setups : (s : ℕ) → setup_at new s ≡ setup_at old s
+    pub others : (s r : ℕ) → (r ≡ region → ⊥) → closes_at new s r ≡ closes_at old s r
+    pub stays : (s : ℕ) → closes_at old s region ≡ true → closes_at new s region ≡ true
 
   -- in each stripe these entries were made, the newest first
   abbrev pub WentAll : (owner : ℕ) (has_noted : J → History Entry → Type 0) → (made : ℕ → List Entry) → (old new : PagerSeen J) → Type 0
@@ -193,6 +221,30 @@ module _ {J : Type 0} where
     pub none : failed ≡ false → (s : ℕ) → list_any is_failed_write (made s) ≡ false
     pub once : (s : ℕ) (x : StripeSeen J) → slice_get old.stripes s ≡ Some x → TriesDirty x.core (made s)
     pub clean : (s : ℕ) (y : StripeSeen J) → slice_get new.stripes s ≡ Some y → LeavesClean (made s) y.core
+
+  -- A flush ended with a failed write of this page: the stripes below the page's were flushed, and those above it made nothing.
+  pub record FlushFails (owner : ℕ) (has_noted : J → History Entry → Type 0) (old new : PagerSeen J) (f : PageFault) : Type 0 where
+    pub failed : OneFailed owner has_noted WritesAll (WritesUpTo f) old.stripes new.stripes
+    pub page : has_key old f.key ≡ true
+    pub at : stripe_at old f.key ≡ failed.stripe
+
+  -- So did the unmapping of the page's region, which wasn't unmapped in every stripe before.
+  pub record UnmapFails (owner : ℕ) (has_noted : J → History Entry → Type 0) (region : ℕ) (old new : PagerSeen J) (f : PageFault) : Type 0 where
+    pub mapped : is_gone old region ≡ false
+    pub failed : OneFailed owner has_noted (Unmaps region) (FailsToUnmap region f) old.stripes new.stripes
+    pub page : has_key old f.key ≡ true
+    pub at : stripe_at old f.key ≡ failed.stripe
+
+  -- it was, and nothing was made, or the unmapping ended with a failed write
+  abbrev pub EndsUnmap : (owner : ℕ) (has_noted : J → History Entry → Type 0) (region : ℕ) → (old new : PagerSeen J) → UnmapError → Type 0
+  EndsUnmap owner has_noted region old new unmap_error.Unmapped = (is_gone old region ≡ true) × (new.stripes ≡ old.stripes)
+  EndsUnmap owner has_noted region old new (unmap_error.Fault f) = UnmapFails owner has_noted region old new f
+
+  -- the region wasn't unmapped in every stripe before, and is so now, each stripe by its entries
+  pub record UnmapsEach (owner : ℕ) (has_noted : J → History Entry → Type 0) (region : ℕ) (old new : PagerSeen J) : Type 0 where
+    pub mapped : is_gone old region ≡ false
+    pub each : EachDid owner has_noted (Unmaps region) old.stripes new.stripes
+    pub gone : is_gone new region ≡ true
 
   -- each page holds what it held
   abbrev pub HoldsSame : (old new : PagerSeen J) → Type 0
@@ -264,4 +316,5 @@ module _ {J : Type 0} where
         → slice_get p.stripes s ≡ Some x → IsMade c s row journal x
     pub holds : (k : Key) (row : List LaneSeen) → slice_get rows (stripe_at p k) ≡ Some row → held p k ≡ told_in (slice_get row k.region) k.page
     pub owes : (k : Key) → owes p k ≡ false
+    pub open_ : (s r : ℕ) → closes_at p s r ≡ false
     pub counts : (s r : ℕ) (row : List LaneSeen) → slice_get rows s ≡ Some row → count_at p s r ≡ count_by (slice_get row r)

@@ -1,5 +1,5 @@
 -- A stripe between two calls of one thread.
-use Rattle.std.specs.Prelude.{◌≡◌, ℕ, ◌<◌, ◌≤◌, true, false, List, [], slice_get, Some, sum_by}
+use Rattle.std.specs.Prelude.{◌≡◌, ℕ, ◌<◌, ◌≤◌, true, List, [], slice_get, Some, sum_by}
 use Rattle.histories.specs.Histories.{History}
 use Rattle.page_base.specs.declared.keys.RegionShape.{RegionShape}
 use Rattle.page_base.specs.declared.limits.TheConstants.{MOST_PAGE_SIZE, MOST_FRAMES, MOST_FAULTS, MOST_REGIONS, MOST_PAGES}
@@ -21,13 +21,16 @@ pub record IsBounded (s : Setup) : Type 0 where
   pub few_pages : sum_by (λ (shape : RegionShape). shape.pages) s.shapes ≤ MOST_PAGES
   pub groups : (r : ℕ) (shape : RegionShape) → slice_get s.shapes r ≡ Some shape → 1 ≤ shape.group
 
--- the stripe stands for a history, each lane is home, and no region is closing
+-- the stripe stands for a history, and each lane is home
 pub record IsAtRest (c : Core) : Type 0 where
   pub history : History Entry
   pub stands : StandsFor history c
   pub home : (r : ℕ) → r < regions c.setup → is_home c r ≡ true
-  pub stays : (r : ℕ) → is_closing c r ≡ false
   pub bounded : IsBounded c.setup
+
+-- the regions that close are the same
+abbrev pub ClosesSame : (old new : Core) → Type 0
+ClosesSame old new = (r : ℕ) → is_closing new r ≡ is_closing old r
 
 -- the stripe has just been made, by this configuration with these lanes
 pub record IsFresh (c : Core) : Type 0 where

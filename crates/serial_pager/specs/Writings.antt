@@ -1,5 +1,5 @@
--- What writing all dirty pages makes a stripe do.
-use Rattle.std.specs.Prelude.{◌≡◌, ℕ, ◌<◌, ◌⊎◌, ◌==◌, Bool, true, false, List, [], ◌∷◌}
+-- What writing all dirty pages makes a stripe do, and what flushing it does.
+use Rattle.std.specs.Prelude.{◌≡◌, ℕ, ◌<◌, ◌⊎◌, ◌==◌, ◌&&◌, not, Bool, true, false, List, [], ◌∷◌}
 use Rattle.std.specs.Bool.{⊤}
 use Rattle.std.specs.List.{AllByRecursion, list_all, list_any}
 use Rattle.histories.specs.Histories.{History}
@@ -12,7 +12,8 @@ use Rattle.page_model.specs.declared.entry.Entry.{Entry}
 use Rattle.page_model.specs.declared.entry.Entry.TheVariants.{WriteFailed, StartWrite, Written}
 use Rattle.page_model.specs.Core.{Core, is_dirty}
 use Rattle.page_model.specs.Residents.{is_in}
-use Rattle.page_model.specs.Setups.{regions}
+use Rattle.page_model.specs.Setups.{has_page, regions}
+use Rattle.serial_pager.specs.declared.fault.PageFault.{PageFault}
 use Rattle.serial_pager.specs.Seen.{StripeSeen}
 use Rattle.serial_pager.specs.Holdings.{count_at, IsStored}
 use Rattle.serial_pager.specs.Goings.{Went}
@@ -53,6 +54,26 @@ Falls (k ∷ ks) = AllByRecursion (λ (j : Key). is_below j k ≡ true) ks × Fa
 pub record TriesDirty (old : Core) (es : List Entry) : Type 0 where
   pub rising : Falls (tries es)
   pub each : (k : Key) → is_in k (tries es) ≡ is_dirty old k
+
+-- The dirty pages were written by these entries, the newest first: by writes for a flush alone, none of which failed, each page
+-- once and no other, in rising order of key. No page is dirty then.
+pub record WritesAll (old : Core) (es : List Entry) (new : Core) : Type 0 where
+  pub pass : list_all flushes es ≡ true
+  pub none : list_any is_failed_write es ≡ false
+  pub once : TriesDirty old es
+  pub clean : (k : Key) → is_dirty new k ≡ false
+
+-- So they were up to one page, whose write failed as the last entry. It and the pages behind it are dirty as before.
+pub record WritesUpTo (f : PageFault) (old : Core) (es : List Entry) (new : Core) : Type 0 where
+  pub page : has_page old.setup f.key ≡ true
+  pub before : List Entry
+  pub is : es ≡ WriteFailed f.key f.faults ∷ StartWrite f.key Flush ∷ before
+  pub pass : list_all flushes before ≡ true
+  pub none : list_any is_failed_write before ≡ false
+  pub rising : Falls (tries es)
+  pub each : (k : Key) → is_in k (tries es) ≡ (is_dirty old k && not (is_below f.key k))
+  pub clean : (k : Key) → is_below k f.key ≡ true → is_dirty new k ≡ false
+  pub stays : (k : Key) → is_below k f.key ≡ false → is_dirty new k ≡ is_dirty old k
 
 -- behind these entries a page is clean, unless a write of its region failed among them
 abbrev pub LeavesClean : List Entry → Core → Type 0

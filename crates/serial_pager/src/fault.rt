@@ -1,4 +1,4 @@
-//! Why an access fails.
+//! Why a call of a pager fails.
 use page_base::Key;
 use thiserror::Error;
 
@@ -8,4 +8,15 @@ use thiserror::Error;
 pub struct PageFault {
     pub key: Key,
     pub faults: u64,
+}
+
+/// Why a region wasn't unmapped.
+#[derive(Clone, Copy, Debug, PartialEq, Eq, Error)]
+pub enum UnmapError {
+    /// It is unmapped in every stripe.
+    #[error("unmapped")]
+    Unmapped,
+    /// The write of one of its pages failed. The region goes on closing.
+    #[error(transparent)]
+    Fault(PageFault),
 }

@@ -19,7 +19,7 @@ mod laws;
 mod pager;
 mod stripe;
 
-pub use fault::PageFault;
+pub use fault::{PageFault, UnmapError};
 pub use page_base::Key;
 pub use pager::{PagerBack, PagerConfig, SerialPager};
 pub use stripe::SerialStripe;

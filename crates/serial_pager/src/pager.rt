@@ -8,6 +8,7 @@ ghost use Rattle.serial_pager.specs.Rests.{IsAtRest};
 ghost use Rattle.serial_pager.specs.InsideSound.{HandsBack};
 
 mod calls;
+mod walks;
 
 use crate::laws::model_laws;
 use crate::stripe::SerialStripe;

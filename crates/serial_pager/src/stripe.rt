@@ -4,6 +4,7 @@
 //! owner 0.
 ghost use Rattle.std.specs.Prelude.{◌≡◌, ℕ, ◌<◌, false, length};
 ghost use Rattle.page_base.specs.declared.keys.Key.{Key};
+ghost use Rattle.page_model.specs.Core.{is_closing};
 ghost use Rattle.page_model.specs.Setups.{regions, base_of, first_count};
 ghost use Rattle.serial_pager.specs.Holdings.{held, owes, count_at};
 ghost use Rattle.serial_pager.specs.Rests.{IsAtRest, IsFresh};
@@ -12,6 +13,7 @@ ghost use Rattle.stripe_core.specs.Standing.{AreHomeLanes};
 
 mod accesses;
 mod serving;
+mod unmapping;
 mod writing;
 
 use page_base::List;
@@ -41,6 +43,7 @@ impl<S: Store, J: Journal> SerialStripe<S, J> {
         ensures core { result.core ≡ stripe }
         ensures journal { result.journal ≡ journal }
         ensures rest { IsAtRest result.core }
+        ensures open_ { (r : ℕ) → is_closing result.core r ≡ false }
         ensures owes { (k : Key) → owes result.core k ≡ false }
         ensures held { (k : Key) → held result.core k ≡ base_of result.core.setup k }
         ensures counts { (r : ℕ) → count_at result.core r ≡ first_count result.core.setup r }

@@ -48,7 +48,7 @@ impl<S: Store, J: Journal> SerialPager<S, J> {
     }
 
     /// The stripe that a page lies in.
-    fn stripe_of(&self, key: Key) -> usize
+    pub(crate) fn stripe_of(&self, key: Key) -> usize
         requires page { has_key self.now key ≡ true }
         ensures stripe { result ≡ stripe_at self.now key }
         ensures below { result < length self.now.stripes }

@@ -3,7 +3,7 @@ ghost use Rattle.std.specs.Prelude.{◌≡◌, ◌+◌, ◌≤◌, ◌^◌, ◌<
 ghost use Rattle.page_base.specs.declared.keys.Key.{Key};
 ghost use Rattle.page_model.specs.declared.entry.Entry.TheVariants as entry;
 ghost use Rattle.page_model.specs.Events.{InPage};
-ghost use Rattle.page_model.specs.Core.{is_present};
+ghost use Rattle.page_model.specs.Core.{is_closing, is_present};
 ghost use Rattle.page_model.specs.Setups.{is_writable};
 ghost use Rattle.page_model.specs.Steps as step;
 ghost use Rattle.stripe_core.specs.Answers.{GivesBytes};
@@ -12,7 +12,7 @@ ghost use Rattle.serial_pager.specs.Goings.{Went};
 ghost use Rattle.serial_pager.specs.InsideGoings.{WentBy};
 ghost use Rattle.serial_pager.specs.Holdings.{held, owes, owes_with, is_for_store, AreBytesAt, stored_over, CountsGrow, HoldsSame, HoldsOthers};
 ghost use Rattle.serial_pager.specs.Seen.{fixed_of};
-ghost use Rattle.serial_pager.specs.Rests.{IsAtRest};
+ghost use Rattle.serial_pager.specs.Rests.{ClosesSame, IsAtRest};
 ghost use Rattle.serial_pager.specs.InsideServices.{Raises, is_shut, why_shut};
 
 use crate::fault::PageFault;
@@ -36,10 +36,12 @@ impl<S: Store, J: Journal> SerialStripe<S, J> {
         requires rest { IsAtRest self.old.core }
         requires few { self.old.core.events + 2 ^ 16 ≤ 2 ^ 62 }
         requires scratch { length scratch.old ≡ self.old.core.setup.page_size }
+        requires not_closing { is_closing self.old.core key.region ≡ false }
         requires in_page { InPage self.old.core.setup key place (length buf.old) }
         ensures rest { IsAtRest self.new.core }
         ensures fixed { fixed_of J.made_with self.new ≡ fixed_of J.made_with self.old }
         ensures few { self.new.core.events ≤ self.old.core.events + 2 ^ 16 }
+        ensures closes { ClosesSame self.old.core self.new.core }
 
         // what the pages hold
         ensures bytes { OnOk result (AreBytesAt (held self.old.core key) place buf.new) }
@@ -75,11 +77,13 @@ impl<S: Store, J: Journal> SerialStripe<S, J> {
         requires rest { IsAtRest self.old.core }
         requires few { self.old.core.events + 2 ^ 16 ≤ 2 ^ 62 }
         requires scratch { length scratch.old ≡ self.old.core.setup.page_size }
+        requires not_closing { is_closing self.old.core key.region ≡ false }
         requires in_page { InPage self.old.core.setup key place (length bytes.now) }
         requires writable { is_writable self.old.core.setup key.region ≡ true }
         ensures rest { IsAtRest self.new.core }
         ensures fixed { fixed_of J.made_with self.new ≡ fixed_of J.made_with self.old }
         ensures few { self.new.core.events ≤ self.old.core.events + 2 ^ 16 }
+        ensures closes { ClosesSame self.old.core self.new.core }
 
         // what the pages hold
         ensures bytes { OnOk result (held self.new.core key ≡ stored_over (held self.old.core key) place bytes.now) }
@@ -107,6 +111,7 @@ impl<S: Store, J: Journal> SerialStripe<S, J> {
     fn try_load(&mut self, key: Key, place: u32, buf: &mut [u8]) -> bool
         requires rest { IsAtRest self.old.core }
         requires few { self.old.core.events < 2 ^ 62 }
+        requires not_closing { is_closing self.old.core key.region ≡ false }
         requires in_page { InPage self.old.core.setup key place (length buf.old) }
         ensures rest { IsAtRest self.new.core }
         ensures made { J.made_with self.new.journal ≡ J.made_with self.old.journal }
@@ -143,6 +148,7 @@ impl<S: Store, J: Journal> SerialStripe<S, J> {
     fn try_store(&mut self, key: Key, place: u32, bytes: &[u8]) -> bool
         requires rest { IsAtRest self.old.core }
         requires few { self.old.core.events < 2 ^ 62 }
+        requires not_closing { is_closing self.old.core key.region ≡ false }
         requires in_page { InPage self.old.core.setup key place (length bytes.now) }
         requires writable { is_writable self.old.core.setup key.region ≡ true }
         ensures rest { IsAtRest self.new.core }

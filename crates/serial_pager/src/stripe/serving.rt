@@ -1,11 +1,11 @@
 //! The services of a stripe, one for each kind of what may be next. Each makes its entries and leaves every lane home.
-ghost use Rattle.std.specs.Prelude.{◌≡◌, ◌+◌, ◌≤◌, ◌<◌, ◌^◌, ◌⊎◌, [], ◌∷◌, true, length, OnOk, IfErr};
+ghost use Rattle.std.specs.Prelude.{◌≡◌, ◌+◌, ◌≤◌, ◌<◌, ◌^◌, ◌⊎◌, [], ◌∷◌, true, false, length, OnOk, IfErr};
 ghost use Rattle.page_base.specs.declared.keys.Key.{Key};
 ghost use Rattle.page_base.specs.declared.keys.Why.{Why};
 ghost use Rattle.page_model.specs.declared.entry.Entry.TheVariants as entry;
 ghost use Rattle.page_model.specs.declared.entry.Cause.TheVariants.{Pressure};
 ghost use Rattle.page_model.specs.declared.seen.Next.TheVariants as serve;
-ghost use Rattle.page_model.specs.Core.{next};
+ghost use Rattle.page_model.specs.Core.{is_closing, next};
 ghost use Rattle.page_model.specs.Events.{CanRaiseFor, CanStartWrite, CanEvict};
 ghost use Rattle.page_model.specs.Setups.{has_page};
 ghost use Rattle.page_model.specs.Steps as step;
@@ -28,6 +28,7 @@ impl<S: Store, J: Journal> SerialStripe<S, J> {
         requires rest { IsAtRest self.old.core }
         requires few { self.old.core.events < 2 ^ 62 }
         requires page { has_page self.old.core.setup key ≡ true }
+        requires not_closing { is_closing self.old.core key.region ≡ false }
         requires fits { CanRaiseFor self.old.core key why }
         ensures rest { IsAtRest self.new.core }
         ensures made { J.made_with self.new.journal ≡ J.made_with self.old.journal }
@@ -71,7 +72,8 @@ impl<S: Store, J: Journal> SerialStripe<S, J> {
         }
     }
 
-    fn drop_raise(&mut self)
+    /// Drops the stale fault that is next.
+    pub(crate) fn drop_raise(&mut self)
         requires rest { IsAtRest self.old.core }
         requires few { self.old.core.events < 2 ^ 62 }
         requires next { (k : Key) × (next self.old.core ≡ serve.Drop k) }
@@ -167,7 +169,7 @@ impl<S: Store, J: Journal> SerialStripe<S, J> {
         match self.stripe.pick() {
             Some(pick) if pick.dirty => self.write_out(scratch, pick.key, Cause::Pressure),
             Some(pick) => {
-                self.evict(pick.key);
+                self.evict(pick.key, Cause::Pressure);
                 Ok(())
             }
             None => unreachable!(),
@@ -220,17 +222,17 @@ impl<S: Store, J: Journal> SerialStripe<S, J> {
         }
     }
 
-    fn evict(&mut self, key: Key)
+    /// Lets a clean page leave.
+    pub(crate) fn evict(&mut self, key: Key, why: Cause)
         requires rest { IsAtRest self.old.core }
         requires few { self.old.core.events < 2 ^ 62 }
         requires page { has_page self.old.core.setup key ≡ true }
-        requires can { CanEvict self.old.core key Pressure }
+        requires can { CanEvict self.old.core key why }
         ensures rest { IsAtRest self.new.core }
         ensures made { J.made_with self.new.journal ≡ J.made_with self.old.journal }
         ensures step { self.new.core ≡ step.evict self.old.core key }
-        ensures went { Went 0 J.has_noted (entry.Evicted key Pressure ∷ []) self.old self.new }
+        ensures went { Went 0 J.has_noted (entry.Evicted key why ∷ []) self.old self.new }
     {
-        let why = Cause::Pressure;
         self.stripe.evict(key, why);
         self.journal.note(0, &Note::Evicted { key, why });
     }

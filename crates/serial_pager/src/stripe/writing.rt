@@ -1,15 +1,17 @@
-//! Writing all dirty pages of a stripe.
-ghost use Rattle.std.specs.Prelude.{◌≡◌, ℕ, ◌+◌, ◌≤◌, ◌^◌, true, false, length};
+//! Writing all dirty pages of a stripe, and flushing it.
+ghost use Rattle.std.specs.Prelude.{◌≡◌, ℕ, ◌+◌, ◌≤◌, ◌^◌, true, false, length, OnOk, IfErr};
 ghost use Rattle.page_base.specs.declared.keys.Key.{Key};
 ghost use Rattle.page_model.specs.Core.{is_dirty};
 ghost use Rattle.page_model.specs.Setups.{has_page};
 ghost use Rattle.serial_pager.specs.Holdings.{CountsGrow, HoldsSame, owes};
 ghost use Rattle.serial_pager.specs.InsideServices.{Tries};
-ghost use Rattle.serial_pager.specs.Rests.{IsAtRest};
+ghost use Rattle.serial_pager.specs.Rests.{ClosesSame, IsAtRest};
 ghost use Rattle.serial_pager.specs.Seen.{fixed_of};
-ghost use Rattle.serial_pager.specs.Writings.{WroteEach, RoseAt, TriesEach, StoresEach};
+ghost use Rattle.serial_pager.specs.Writings.{WroteEach, RoseAt, TriesEach, StoresEach, WritesAll, WritesUpTo};
+ghost use Rattle.serial_pager.specs.Goings.{Did};
 ghost use Rattle.serial_pager.specs.InsideGoings.{TriesToWrite};
 
+use crate::fault::PageFault;
 use crate::laws::model_laws;
 use crate::stripe::SerialStripe;
 use page_base::Key;
@@ -26,6 +28,7 @@ impl<S: Store, J: Journal> SerialStripe<S, J> {
         ensures rest { IsAtRest self.new.core }
         ensures fixed { fixed_of J.made_with self.new ≡ fixed_of J.made_with self.old }
         ensures few { self.new.core.events ≤ self.old.core.events + 2 ^ 22 }
+        ensures closes { ClosesSame self.old.core self.new.core }
         ensures held { HoldsSame self.old.core self.new.core }
         ensures entries { WroteEach 0 J.has_noted result self.old self.new }
         ensures owes { (k : Key) → owes self.new.core k ≡ true → owes self.old.core k ≡ true }
@@ -44,6 +47,31 @@ impl<S: Store, J: Journal> SerialStripe<S, J> {
             after = Some(key);
         }
         failed
+    }
+
+    /// Writes the dirty pages, each once, in rising order of region and page. The first failed write ends it: that page and those
+    /// behind it are dirty still. The pages stay resident.
+    pub fn flush(&mut self, scratch: &mut [u8]) -> Result<(), PageFault>
+        requires rest { IsAtRest self.old.core }
+        requires few { self.old.core.events + 2 ^ 22 ≤ 2 ^ 62 }
+        requires scratch { length scratch.old ≡ self.old.core.setup.page_size }
+        ensures rest { IsAtRest self.new.core }
+        ensures fixed { fixed_of J.made_with self.new ≡ fixed_of J.made_with self.old }
+        ensures few { self.new.core.events ≤ self.old.core.events + 2 ^ 22 }
+        ensures closes { ClosesSame self.old.core self.new.core }
+        ensures ok { OnOk result (Did 0 J.has_noted WritesAll self.old self.new) }
+        ensures err { IfErr result (λ f. Did 0 J.has_noted (WritesUpTo f) self.old self.new) }
+    {
+        model_laws();
+        let mut after = None;
+        'pages: while let Some(key) = self.stripe.next_dirty(after) {
+            match self.write_out(scratch, key, Cause::Flush) {
+                Ok(()) => {}
+                Err(fault) => return Err(fault),
+            }
+            after = Some(key);
+        }
+        Ok(())
     }
 
     /// Writes a dirty page, and tells whether that failed.

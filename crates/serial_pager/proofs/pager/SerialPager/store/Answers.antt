@@ -11,7 +11,7 @@ use Rattle.serial_pager.specs.Pagers.{PieceFails, WentToIn, owes}
 use Rattle.serial_pager.specs.Sound.{seen_of}
 use Rattle.serial_pager.proofs.Lists.{slice_set_length}
 use Rattle.serial_pager.proofs.Stripes.{stripe_of_pages, writable_stripe, held_same, held_others, held_here, held_was, owes_same, owes_was, counts_grow, journals_same}
-use Rattle.serial_pager.proofs.Pieces.{touched, piece_in_page, access_setup, sound_on, same_on, went_in, piece_fails, names_on, few_is, within_of, on_ok, on_err, if_err, with_owed}
+use Rattle.serial_pager.proofs.Pieces.{touched, piece_in_page, piece_open, access_setup, sound_on, same_on, went_in, piece_fails, names_on, few_is, within_of, on_ok, on_err, if_err, with_owed}
 use Rattle.serial_pager.proofs.pager.SerialPager.store.Goals as goal
 
 pub store-requires-clause-rest : goal.store-requires-clause-rest
@@ -59,6 +59,15 @@ store-requires-clause-writable g c =
     let t = touched p ins.config ins.stripes.items ins.spent s x c.self.view_is c.self.invariant.0 c.stripe_of-stripe.ensures.below c.index_mut.ensures.value in
     writable_stripe p s x.core t.part c.args.key.region c.requires.writable
 
+pub store-requires-clause-not_closing : goal.store-requires-clause-not_closing
+store-requires-clause-not_closing g c =
+    let p = c.args.self.now in
+    let ins = c.self.inside in
+    let s = c.stripe_of-stripe.result in
+    let x = c.index_mut.result.now in
+    let t = touched p ins.config ins.stripes.items ins.spent s x c.self.view_is c.self.invariant.0 c.stripe_of-stripe.ensures.below c.index_mut.ensures.value in
+    piece_open p s x t c.args.key c.args.place (length c.args.bytes.now) c.requires.piece c.stripe_of-stripe.ensures.stripe
+
 pub invariant_of-self : goal.invariant_of-self
 invariant_of-self g c =
     let p = c.args.self.now in
@@ -93,7 +102,7 @@ returns-clause-same g c =
     let spent : q.spent ≡ p.spent + 1 = ap (λ v. v.spent + 1) c.self.view_is in
     let e = c.store.ensures in
     let setup : y.core.setup ≡ x.core.setup = access_setup g.J.Journal.has_noted c.args.key is_for_store c.store.result (entry.Save c.args.key c.args.place c.args.bytes.now) (stripe.owes_with x.core c.args.key) x y e.ok e.err in
-    same_on p q s x y t is shapes size setup
+    same_on p q s x y t is shapes size setup e.closes
 
 pub returns-clause-within : goal.returns-clause-within
 returns-clause-within g c =

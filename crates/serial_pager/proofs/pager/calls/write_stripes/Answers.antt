@@ -38,7 +38,7 @@ loop-stripe-preserved g c =
     let y = c.write_dirty.new.self in
     let e = c.write_dirty.ensures in
     let here : slice_get c.loop-stripe.stripes.items i ≡ Some x = slice_get_read c.loop-stripe.stripes.items (length c.loop-stripe.stripes.items) i x refl (omega (arith, f.as_many)) c.index_mut.ensures.value in
-    let flushes : Flushes x y = record { fixed = ap (λ f. f.setup) e.fixed; rest = e.rest; few = e.few; held = e.held; owes = e.owes; counts = e.counts; tried = e.tried } in
+    let flushes : Flushes x y = record { fixed = ap (λ f. f.setup) e.fixed; rest = e.rest; few = e.few; held = e.held; owes = e.owes; counts = e.counts; tried = e.tried; closes = e.closes } in
     let how : ((c.write_dirty.result ≡ true) × (c.if-write_dirty.failed ≡ true)) ⊎ ((c.write_dirty.result ≡ false) × (c.if-write_dirty.failed ≡ c.loop-stripe.failed)) =
     elim c.if-write_dirty.branch [ then-write_dirty w ↦ inl (w.if-write_dirty.true, w.failed-is) | else-write_dirty w ↦ inr (w.if-write_dirty.false, w.failed-is) ] in
     record {

@@ -1,6 +1,5 @@
 use Rattle.std.proofs.Common.{ap, subst, sym}
 use Rattle.page_model.specs.Core.{Core}
-use Rattle.page_model.specs.declared.entry.Cause.TheVariants.{Pressure}
 use Rattle.page_model.specs.declared.entry.Entry.TheVariants as entry
 use Rattle.serial_pager.specs.Rests.{IsAtRest}
 use Rattle.serial_pager.proofs.Goes.{went_once}
@@ -14,5 +13,5 @@ returns-clause-rest g c =
 
 pub returns-clause-went : goal.returns-clause-went
 returns-clause-went g c =
-    went_once g.J.Journal.has_noted (entry.Evicted c.args.key Pressure) c.self.inside.stripe c.evict.new.self c.self.inside.journal c.note.new.self c.args.self.now c.self.view_is
+    went_once g.J.Journal.has_noted (entry.Evicted c.args.key c.args.why) c.self.inside.stripe c.evict.new.self c.self.inside.journal c.note.new.self c.args.self.now c.self.view_is
     c.evict.ensures.fixed (ap (λ (x : Core). x.events) c.evict.ensures.step) c.evict.ensures.stands c.note.ensures.noted

@@ -5,7 +5,8 @@ use Rattle.page_model.specs.declared.entry.Entry.TheVariants as entry
 use Rattle.page_model.specs.Core.{Core}
 use Rattle.serial_pager.specs.Accesses.{is_read}
 use Rattle.serial_pager.specs.Holdings.{owes}
-use Rattle.serial_pager.proofs.Loops.{asks_load, failed_access, failed_counts, failed_events, failed_holds, failed_names, failed_owes, failed_setup, gives_held, raises_events, turned_few, turned_holds, turned_less, turned_once, turned_to, holds_same, serving_stores_nothing}
+use Rattle.serial_pager.proofs.Loops.{asked_open, asks_load, failed_access, failed_closes, failed_counts, failed_events, failed_holds, failed_names, failed_owes, failed_setup, gives_held, raises_events, serving_closes_nothing, turned_few, turned_holds, turned_less, turned_once, turned_open, turned_to, holds_same, serving_stores_nothing}
+use Rattle.serial_pager.proofs.Closed.{closes_same}
 use Rattle.serial_pager.proofs.stripe.SerialStripe.load.Goals as goal
 
 pub try_load-requires-clause-few : goal.try_load-requires-clause-few
@@ -22,14 +23,16 @@ serve-requires-clause-few g c =
 pub loop-key-smaller : goal.loop-key-smaller
 loop-key-smaller g c =
     let asked = asks_load g.J.Journal.has_noted c.args.key (owes c.args.self.now.core) c.loop-key.self c.try_load.new.self c.try_load.ensures.rest (c.try_load.ensures.before c.loop-key-test.true) (c.try_load.ensures.raises c.loop-key-test.true) (c.try_load.ensures.missed c.loop-key-test.true) in
-    turned_less g.J.Journal.has_noted false is_read c.args.key (owes c.args.self.now.core) c.model_laws.ensures Read c.loop-key.self c.try_load.new.self c.serve.new.self asked c.in-Ok.ensures.steps
+    let open_ = asked_open g.J.Journal.has_noted false is_read c.args.key (owes c.args.self.now.core) c.model_laws.ensures Read c.args.self.now c.loop-key.self c.try_load.new.self c.requires.rest c.loop-key.invariant.turned asked c.requires.not_closing in
+    turned_less g.J.Journal.has_noted false is_read c.args.key (owes c.args.self.now.core) c.model_laws.ensures Read c.loop-key.self c.try_load.new.self c.serve.new.self asked open_ c.in-Ok.ensures.steps
 
 pub loop-key-preserved : goal.loop-key-preserved
 loop-key-preserved g c =
     let no = c.loop-key-test.true in
     let asked = asks_load g.J.Journal.has_noted c.args.key (owes c.args.self.now.core) c.loop-key.self c.try_load.new.self c.try_load.ensures.rest (c.try_load.ensures.before no) (c.try_load.ensures.raises no) (c.try_load.ensures.missed no) in
+    let open_ = asked_open g.J.Journal.has_noted false is_read c.args.key (owes c.args.self.now.core) c.model_laws.ensures Read c.args.self.now c.loop-key.self c.try_load.new.self c.requires.rest c.loop-key.invariant.turned asked c.requires.not_closing in
     record {
-      turned = turned_once g.J.Journal.has_noted false is_read c.args.key (owes c.args.self.now.core) c.model_laws.ensures Read c.args.self.now c.loop-key.self c.try_load.new.self c.serve.new.self c.loop-key.invariant.turned asked c.serve.ensures.rest (c.in-Ok.ensures.went is_read) c.in-Ok.ensures.steps;
+      turned = turned_once g.J.Journal.has_noted false is_read c.args.key (owes c.args.self.now.core) c.model_laws.ensures Read c.args.self.now c.loop-key.self c.try_load.new.self c.serve.new.self c.loop-key.invariant.turned asked open_ c.serve.ensures.rest (c.in-Ok.ensures.went is_read) c.in-Ok.ensures.steps;
       made = c.serve.ensures.made ∙ (c.try_load.ensures.made ∙ c.loop-key.invariant.made);
       buf = c.try_load.ensures.untouched no ∙ c.loop-key.invariant.buf;
     }
@@ -100,3 +103,15 @@ returns-in-Err-clause-fixed g c =
     let setup = failed_setup g.J.Journal.has_noted false is_read c.args.key (owes c.args.self.now.core) c.args.self.now c.serve.new.self c.in-Err.fault (returns-in-Err-clause-err g c) in
     let made = c.serve.ensures.made ∙ (c.try_load.ensures.made ∙ c.loop-key.invariant.made) in
     λ i. record { setup = setup i; journal = made i }
+
+pub try_load-requires-clause-not_closing : goal.try_load-requires-clause-not_closing
+try_load-requires-clause-not_closing g c = turned_open g.J.Journal.has_noted false is_read c.args.key (owes c.args.self.now.core) c.model_laws.ensures c.args.self.now c.loop-key.self c.requires.rest c.loop-key.invariant.turned c.requires.not_closing
+
+pub returns-clause-closes : goal.returns-clause-closes
+returns-clause-closes g c =
+    let went = returns-clause-ok g c in
+    closes_same c.model_laws.ensures g.J.Journal.has_noted _ c.args.self.now c.try_load.new.self c.requires.rest went.went (serving_closes_nothing c.args.key is_read went.before went.pass)
+
+pub returns-in-Err-clause-closes : goal.returns-in-Err-clause-closes
+returns-in-Err-clause-closes g c =
+    failed_closes g.J.Journal.has_noted false is_read c.args.key (owes c.args.self.now.core) c.model_laws.ensures c.args.self.now c.serve.new.self c.in-Err.fault c.requires.rest (returns-in-Err-clause-err g c)

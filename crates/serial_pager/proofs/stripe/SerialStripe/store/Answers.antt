@@ -10,7 +10,8 @@ use Rattle.page_model.specs.Steps as step
 use Rattle.serial_pager.specs.Holdings.{CountsGrow, held, is_for_store, owes, owes_with}
 use Rattle.serial_pager.specs.InsideServices.{why_shut}
 use Rattle.serial_pager.proofs.Keys.{same_self}
-use Rattle.serial_pager.proofs.Loops.{asks_store, failed_access, failed_counts, failed_events, failed_holds, failed_names, failed_owes, failed_setup, raises_events, saved_elsewhere, saved_here, saved_owes, turned_few, turned_holds, turned_less, turned_none, turned_once, turned_to}
+use Rattle.serial_pager.proofs.Loops.{asked_open, asks_store, failed_access, failed_closes, failed_counts, failed_events, failed_holds, failed_names, failed_owes, failed_setup, raises_events, saved_elsewhere, saved_here, saved_owes, serving_closes_nothing, turned_few, turned_holds, turned_less, turned_none, turned_once, turned_open, turned_to}
+use Rattle.serial_pager.proofs.Closed.{closes_same}
 use Rattle.serial_pager.proofs.stripe.SerialStripe.store.Goals as goal
 
 -- the page itself may owe
@@ -31,14 +32,16 @@ serve-requires-clause-few g c =
 pub loop-key-smaller : goal.loop-key-smaller
 loop-key-smaller g c =
     let asked = asks_store g.J.Journal.has_noted c.args.key (owes_with c.args.self.now.core c.args.key) c.loop-key.self c.try_store.new.self c.try_store.ensures.rest (c.try_store.ensures.before c.loop-key-test.true) (c.try_store.ensures.raises c.loop-key-test.true) (c.try_store.ensures.missed c.loop-key-test.true) (self_owed c.args.self.now.core c.args.key) in
-    turned_less g.J.Journal.has_noted true is_for_store c.args.key (owes_with c.args.self.now.core c.args.key) c.model_laws.ensures (why_shut c.loop-key.self.core c.args.key) c.loop-key.self c.try_store.new.self c.serve.new.self asked c.in-Ok.ensures.steps
+    let open_ = asked_open g.J.Journal.has_noted true is_for_store c.args.key (owes_with c.args.self.now.core c.args.key) c.model_laws.ensures (why_shut c.loop-key.self.core c.args.key) c.args.self.now c.loop-key.self c.try_store.new.self c.requires.rest c.loop-key.invariant.turned asked c.requires.not_closing in
+    turned_less g.J.Journal.has_noted true is_for_store c.args.key (owes_with c.args.self.now.core c.args.key) c.model_laws.ensures (why_shut c.loop-key.self.core c.args.key) c.loop-key.self c.try_store.new.self c.serve.new.self asked open_ c.in-Ok.ensures.steps
 
 pub loop-key-preserved : goal.loop-key-preserved
 loop-key-preserved g c =
     let no = c.loop-key-test.true in
     let asked = asks_store g.J.Journal.has_noted c.args.key (owes_with c.args.self.now.core c.args.key) c.loop-key.self c.try_store.new.self c.try_store.ensures.rest (c.try_store.ensures.before no) (c.try_store.ensures.raises no) (c.try_store.ensures.missed no) (self_owed c.args.self.now.core c.args.key) in
+    let open_ = asked_open g.J.Journal.has_noted true is_for_store c.args.key (owes_with c.args.self.now.core c.args.key) c.model_laws.ensures (why_shut c.loop-key.self.core c.args.key) c.args.self.now c.loop-key.self c.try_store.new.self c.requires.rest c.loop-key.invariant.turned asked c.requires.not_closing in
     record {
-      turned = turned_once g.J.Journal.has_noted true is_for_store c.args.key (owes_with c.args.self.now.core c.args.key) c.model_laws.ensures (why_shut c.loop-key.self.core c.args.key) c.args.self.now c.loop-key.self c.try_store.new.self c.serve.new.self c.loop-key.invariant.turned asked c.serve.ensures.rest (c.in-Ok.ensures.went is_for_store) c.in-Ok.ensures.steps;
+      turned = turned_once g.J.Journal.has_noted true is_for_store c.args.key (owes_with c.args.self.now.core c.args.key) c.model_laws.ensures (why_shut c.loop-key.self.core c.args.key) c.args.self.now c.loop-key.self c.try_store.new.self c.serve.new.self c.loop-key.invariant.turned asked open_ c.serve.ensures.rest (c.in-Ok.ensures.went is_for_store) c.in-Ok.ensures.steps;
       made = c.serve.ensures.made ∙ (c.try_store.ensures.made ∙ c.loop-key.invariant.made);
     }
 
@@ -127,3 +130,15 @@ returns-in-Err-clause-fixed g c =
     let setup = failed_setup g.J.Journal.has_noted true is_for_store c.args.key (owes_with c.args.self.now.core c.args.key) c.args.self.now c.serve.new.self c.in-Err.fault (returns-in-Err-clause-err g c) in
     let made = c.serve.ensures.made ∙ (c.try_store.ensures.made ∙ c.loop-key.invariant.made) in
     λ i. record { setup = setup i; journal = made i }
+
+pub try_store-requires-clause-not_closing : goal.try_store-requires-clause-not_closing
+try_store-requires-clause-not_closing g c = turned_open g.J.Journal.has_noted true is_for_store c.args.key (owes_with c.args.self.now.core c.args.key) c.model_laws.ensures c.args.self.now c.loop-key.self c.requires.rest c.loop-key.invariant.turned c.requires.not_closing
+
+pub returns-clause-closes : goal.returns-clause-closes
+returns-clause-closes g c =
+    let went = returns-clause-ok g c in
+    closes_same c.model_laws.ensures g.J.Journal.has_noted _ c.args.self.now c.try_store.new.self c.requires.rest went.went (serving_closes_nothing c.args.key is_for_store went.before went.pass)
+
+pub returns-in-Err-clause-closes : goal.returns-in-Err-clause-closes
+returns-in-Err-clause-closes g c =
+    failed_closes g.J.Journal.has_noted true is_for_store c.args.key (owes_with c.args.self.now.core c.args.key) c.model_laws.ensures c.args.self.now c.serve.new.self c.in-Err.fault c.requires.rest (returns-in-Err-clause-err g c)

@@ -1,7 +1,7 @@
 use Rattle.std.proofs.Common.{Some, ap, arith, false, refl, subst, sym, true, ◌∙◌}
 use Rattle.page_model.specs.Core.{next_dirty}
 use Rattle.page_model.specs.Readers.{IsNextToFlush}
-use Rattle.serial_pager.proofs.Flushes.{Tried, all_stored, each_once, each_tried, flushes_hold, left_less, or_false, or_true, room_left, tried_more, tried_none}
+use Rattle.serial_pager.proofs.Flushes.{Tried, all_stored, each_once, each_tried, flushes_close, flushes_hold, left_less, or_false, or_true, room_left, tried_more, tried_none}
 use Rattle.serial_pager.proofs.stripe.SerialStripe.write_dirty.Goals as goal
 
 pub pages-init : goal.pages-init
@@ -64,6 +64,9 @@ returns-clause-few g c =
 
 pub returns-clause-held : goal.returns-clause-held
 returns-clause-held g c = flushes_hold c.model_laws.ensures g.J.Journal.has_noted c.pages.failed c.args.self.now c.pages.self c.requires.rest c.pages.invariant.tried.rest c.pages.invariant.tried.back
+
+pub returns-clause-closes : goal.returns-clause-closes
+returns-clause-closes g c = flushes_close c.model_laws.ensures g.J.Journal.has_noted c.pages.failed c.args.self.now c.pages.self c.requires.rest c.pages.invariant.tried.back
 
 pub returns-clause-entries : goal.returns-clause-entries
 returns-clause-entries g c = each_once g.J.Journal.has_noted c.model_laws.ensures c.pages.after c.pages.failed c.args.self.now c.pages.self c.pages.invariant.tried (ap (λ v. next_dirty v.core c.pages.after) (sym c.self.view_is) ∙ sym c.in_default.ensures.exact)

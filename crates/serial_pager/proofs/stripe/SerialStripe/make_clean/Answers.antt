@@ -1,0 +1,41 @@
+use Rattle.std.proofs.Common.{[], ◌∷◌, ap, arith, refl, sym, ◌∙◌, ◌≡◌, ◌&&◌, ◌==◌, true, false, not}
+use Rattle.page_model.specs.Core.{Core, is_dirty}
+use Rattle.page_model.specs.declared.entry.Cause.TheVariants.{Unmap}
+use Rattle.page_model.specs.declared.entry.Entry.TheVariants as entry
+use Rattle.serial_pager.specs.Unmappings.{leaves}
+use Rattle.serial_pager.proofs.Clearing.{failed_events, failed_queue, readied, write_leaves}
+use Rattle.serial_pager.proofs.Goes.{by_none, by_these}
+use Rattle.serial_pager.proofs.Results.{if_err, on_ok}
+use Rattle.serial_pager.proofs.stripe.SerialStripe.make_clean.Goals as goal
+
+pub returns-then-not-dirty-clause-went : goal.returns-then-not-dirty-clause-went
+returns-then-not-dirty-clause-went g c = by_none g.J.Journal.has_noted (leaves c.args.key.region) c.args.self.now
+
+pub write_out-requires-clause-page : goal.write_out-requires-clause-page
+write_out-requires-clause-page g c = c.model_laws.ensures.knows.present c.requires.rest.history c.args.self.now.core c.args.key c.requires.rest.stands c.requires.present
+
+pub write_out-requires-clause-can : goal.write_out-requires-clause-can
+write_out-requires-clause-can g c =
+    let page = c.model_laws.ensures.knows.present c.requires.rest.history c.args.self.now.core c.args.key c.requires.rest.stands c.requires.present in
+    record {
+      dirty = c.requires.dirty ∙ c.if-not-dirty.false;
+      home = c.requires.rest.home c.args.key.region (c.model_laws.ensures.pages.region c.args.self.now.core.setup c.args.key page);
+      fits = c.requires.closing;
+    }
+
+pub returns-clause-queue : goal.returns-clause-queue
+returns-clause-queue g c = failed_queue c.args.self.now.core c.write_out.new.self.core c.args.key c.write_out.result c.write_out.ensures.steps c.write_out.ensures.fault
+
+pub returns-clause-few : goal.returns-clause-few
+returns-clause-few g c =
+    let n = failed_events c.args.self.now.core c.write_out.new.self.core c.args.key c.write_out.result c.write_out.ensures.steps c.write_out.ensures.fault in
+    omega (arith, n)
+
+pub returns-clause-went : goal.returns-clause-went
+returns-clause-went g c = on_ok c.write_out.result c.write_out.ensures.went (λ w. by_these g.J.Journal.has_noted (leaves c.args.key.region) (entry.Written c.args.key w.0 w.1 ∷ entry.StartWrite c.args.key Unmap ∷ []) c.args.self.now c.write_out.new.self w.2 (write_leaves c.args.key w.0 w.1))
+
+pub returns-clause-ready : goal.returns-clause-ready
+returns-clause-ready g c = on_ok c.write_out.result c.write_out.ensures.steps (λ w. readied c.args.self.now.core c.write_out.new.self.core c.args.key c.requires.present w)
+
+pub returns-clause-key : goal.returns-clause-key
+returns-clause-key g c = if_err c.write_out.result c.write_out.ensures.fault (λ f w. w.key)
