@@ -53,6 +53,7 @@ module _ (layout : Layout) (gs : List Region) (rows : List (List LaneSeen)) (fit
       shapes = shapes_are;
       whole = λ r known. sym (sizes_whole layout.page_size gs pages r known) ∙ sym (ap (λ m. m * p.page_size) (pages_are r) ∙ ap (λ z. get_or (page_counts layout.page_size gs) r 0 * z) size_is);
       small = small;
+      open_ = opened.open_;
     }
 
     rows_len : length rows ≡ length p.stripes

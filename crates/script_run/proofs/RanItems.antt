@@ -43,6 +43,7 @@ module _ {J : Type 0} (t : Spread) (gs : List Region) where
     shapes = s.shapes ∙ h.shapes;
     whole = λ r below. h.whole r below ∙ ap (λ n. n * p.page_size) (sym (same_pages p q s r)) ∙ ap (λ z. pages_at q r * z) (sym s.page_size);
     small = h.small;
+    open_ = λ r t. s.closes r t ∙ h.open_ r t;
   }
 
   pub may_first : (xs ys : List Line) (r : Replies) (p : PagerSeen J) → MayRun t gs (xs ++ ys) r p → MayRun t gs xs r p

@@ -52,6 +52,7 @@ module _ {J : Type 0} (t : Spread) (gs : List Region) (p : PagerSeen J) (shaped 
 
   pub range_is : (r off len : ℕ) → r < length gs → off + len ≤ size_at gs r → len ≤ 65536 → p.spent + 65536 ≤ 2 ^ 44 → IsRange p r off len
   range_is r off len known inside short few = record {
+    open_ = λ s. shaped.open_ s r;
     inside = subst (λ n. off + len ≤ n) (shaped.whole r known) inside;
     near = omega (arith, inside, shaped.small r);
     few = omega (arith, short, few);

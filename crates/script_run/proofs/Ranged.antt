@@ -11,7 +11,7 @@ use Rattle.region_table.specs.Covers.{IsNext}
 use Rattle.region_table.specs.Pieces.{pieces_of}
 use Rattle.page_base.specs.declared.keys.Piece.{Piece}
 use Rattle.serial_pager.specs.declared.fault.PageFault.{PageFault}
-use Rattle.serial_pager.specs.Pagers.{PagerSeen, group_in, region_has_page, has_key, stripe_at, IsPiece, IsSame}
+use Rattle.serial_pager.specs.Pagers.{PagerSeen, closes_at, group_in, region_has_page, has_key, stripe_at, IsPiece, IsSame}
 use Rattle.flat_lines.specs.Spreads.{range_key, piece_key}
 use Rattle.script_run.specs.InsideRanges.{pages_at, IsRange, RangeGoesOn, FaultsAt}
 use Rattle.script_run.proofs.Lists.{rows_apart}
@@ -43,10 +43,10 @@ module _ {J : Type 0} (p q : PagerSeen J) (s : IsSame p q) where
   same_pages r = ap (λ (ss : List RegionShape). pages_of (slice_get ss r)) s.shapes
 
 pub same_none : {J : Type 0} (p : PagerSeen J) → IsSame p p
-same_none p = record { page_size = refl; shapes = refl; stripes = refl; setups = λ s. refl }
+same_none p = record { page_size = refl; shapes = refl; stripes = refl; setups = λ s. refl; closes = λ s r. refl }
 
 pub same_more : {J : Type 0} (p q z : PagerSeen J) → IsSame p q → IsSame q z → IsSame p z
-same_more p q z a b = record { page_size = b.page_size ∙ a.page_size; shapes = b.shapes ∙ a.shapes; stripes = b.stripes ∙ a.stripes; setups = λ s. b.setups s ∙ a.setups s }
+same_more p q z a b = record { page_size = b.page_size ∙ a.page_size; shapes = b.shapes ∙ a.shapes; stripes = b.stripes ∙ a.stripes; setups = λ s. b.setups s ∙ a.setups s; closes = λ s r. b.closes s r ∙ a.closes s r }
 
 pub goes_none : {J : Type 0} (p : PagerSeen J) → RangeGoesOn 0 p p
 goes_none p = record { same = same_none p; spent = omega arith }
@@ -96,6 +96,7 @@ module _ (size region off len done : ℕ) (piece : Piece) (next : IsNext size re
     pub is_piece : IsPiece q piece.key piece.place piece.len
     is_piece = record {
       page = same_page p q s piece.key ∙ has_piece;
+      open_ = s.closes (stripe_at q piece.key) piece.key.region ∙ (ap (closes_at p (stripe_at q piece.key)) next.at.of_region ∙ range.open_ (stripe_at q piece.key));
       some = next.at.some;
       within = subst (λ z. piece.place + piece.len ≤ z) (sym (s.page_size ∙ sized)) next.at.within;
     }

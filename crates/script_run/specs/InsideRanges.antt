@@ -1,5 +1,5 @@
 -- Ranges of a region's bytes on a pager: what a load or a store of one asks for, what it makes, and how it fails.
-use Rattle.std.specs.Prelude.{◌≡◌, ℕ, ◌+◌, ◌*◌, ◌^◌, ◌<◌, ◌≤◌, Bool, true, List, [], ◌∷◌, length, slice_get, slice_index}
+use Rattle.std.specs.Prelude.{◌≡◌, ℕ, ◌+◌, ◌*◌, ◌^◌, ◌<◌, ◌≤◌, Bool, true, false, List, [], ◌∷◌, length, slice_get, slice_index}
 use Rattle.page_base.specs.declared.keys.Key.{Key}
 use Rattle.histories.specs.Histories.{History}
 use Rattle.page_model.specs.declared.entry.Entry.{Entry}
@@ -7,7 +7,7 @@ use Rattle.page_model.specs.Setups.{pages_of}
 use Rattle.page_base.specs.declared.keys.Piece.{Piece}
 use Rattle.region_table.specs.Regions.{TableSeen, lengths_of}
 use Rattle.serial_pager.specs.declared.fault.PageFault.{PageFault}
-use Rattle.serial_pager.specs.Pagers.{PagerSeen, has_key, stripe_at, IsSame, WentAll}
+use Rattle.serial_pager.specs.Pagers.{PagerSeen, closes_at, has_key, stripe_at, IsSame, WentAll}
 use Rattle.script_run.specs.LineEntries.{Fails, MakesInOrder, may_make}
 use Rattle.page_model.specs.declared.entry.Entry.TheVariants.{Load, Save}
 use Rattle.page_model.specs.Pieces.{AreBefore, accesses_by, loads, saves}
@@ -19,8 +19,9 @@ module _ {J : Type 0} where
   abbrev pub pages_at : PagerSeen J → (region : ℕ) → ℕ
   pages_at p r = pages_of (slice_get p.shapes r)
 
-  -- the range lies in the region, and the pager has pieces left for it
+  -- the range lies in the region, which closes in no stripe, and the pager has pieces left for it
   pub record IsRange (p : PagerSeen J) (region off len : ℕ) : Type 0 where
+    pub open_ : (s : ℕ) → closes_at p s region ≡ false
     pub inside : off + len ≤ pages_at p region * p.page_size
     pub near : off + len ≤ 2 ^ 40
     pub few : p.spent + len ≤ 2 ^ 44

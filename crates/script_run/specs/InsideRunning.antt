@@ -1,5 +1,5 @@
 -- Running some lines: what they need, and what they do to the replies, to the pager and to the histories of its stripes.
-use Rattle.std.specs.Prelude.{Some, ◌≡◌, ℕ, ◌+◌, ◌*◌, ◌/◌, ◌^◌, ◌<◌, ◌≤◌, ◌||◌, true, List, [], ◌∷◌, ◌++◌, map, length, sum}
+use Rattle.std.specs.Prelude.{Some, ◌≡◌, ℕ, ◌+◌, ◌*◌, ◌/◌, ◌^◌, ◌<◌, ◌≤◌, ◌||◌, true, false, List, [], ◌∷◌, ◌++◌, map, length, sum}
 use Rattle.std.specs.List.{flat_map, list_any}
 use Rattle.histories.specs.Histories.{History}
 use Rattle.page_base.specs.declared.keys.RegionShape.{RegionShape}
@@ -10,7 +10,7 @@ use Rattle.page_model.specs.Stands.{StandsFor}
 use Rattle.region_table.specs.Regions.{TableSeen}
 use Rattle.serial_pager.specs.Seen.{StripeSeen}
 use Rattle.serial_pager.specs.Pagers as pagers
-use Rattle.serial_pager.specs.Pagers.{PagerSeen, core_at, IsSame, WentAll}
+use Rattle.serial_pager.specs.Pagers.{PagerSeen, closes_at, core_at, IsSame, WentAll}
 use Rattle.workload_text.specs.declared.limits.TheConstants.{MOST_STORED_BYTES, MOST_ACCESS_BYTES, MOST_LOADED_BYTES}
 use Rattle.workload_text.specs.Line.{Line}
 use Rattle.workload_text.specs.View.{lines_of, command_line}
@@ -36,7 +36,7 @@ abbrev pub shape_of : (page_size : ℕ) → Region → RegionShape
 shape_of page_size g = record { pages = g.size / page_size; group = 1; writable = g.writable }
 
 module _ {J : Type 0} where
-  -- the pager's pages and stripes are those of the regions
+  -- the pager's pages and stripes are those of the regions, of which none closes
   pub record IsShaped (t : Spread) (gs : List Region) (p : PagerSeen J) : Type 0 where
     pub some : 0 < t.page_size
     pub page_size : p.page_size ≡ t.page_size
@@ -45,6 +45,7 @@ module _ {J : Type 0} where
     pub shapes : p.shapes ≡ map (shape_of t.page_size) gs
     pub whole : (r : ℕ) → r < length gs → size_at gs r ≡ pages_at p r * p.page_size
     pub small : (r : ℕ) → size_at gs r ≤ MOST_STORED_BYTES
+    pub open_ : (s r : ℕ) → closes_at p s r ≡ false
 
   -- the lines may run: they are built, their ranges lie inside the regions, and there is room for what they answer
   pub record MayRun (t : Spread) (gs : List Region) (lines : List Line) (replies : Replies) (p : PagerSeen J) : Type 0 where
