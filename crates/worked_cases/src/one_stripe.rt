@@ -1,5 +1,6 @@
 //! One stripe by hand: a region of two pages that take turns in one frame of 64 bytes.
-ghost use Rattle.std.specs.Prelude.{◌≡◌, ℕ, [], ◌∷◌, ◌+◌, ◌<◌, ◌≤◌, ◌^◌, map, true, IfOk};
+ghost use Rattle.std.specs.Prelude.{◌≡◌, ℕ, [], ◌∷◌, ◌+◌, ◌<◌, ◌≤◌, ◌^◌, map, true, false, IfOk};
+ghost use Rattle.page_model.specs.Core.{is_closing};
 ghost use Rattle.serial_pager.specs.Rests.{IsAtRest};
 ghost use Rattle.stripe_core.specs.Configs.{setup_of, CanMake};
 ghost use Rattle.store_trait.specs.Memory.{memory_origin};
@@ -21,7 +22,8 @@ struct Small<S: Store> {
 }
 
 impl<S: Store> Model for Small<S> {
-    ghost use Rattle.std.specs.Prelude.{◌≡◌, ℕ, ◌<◌, true};
+    ghost use Rattle.std.specs.Prelude.{◌≡◌, ℕ, ◌<◌, true, false};
+    ghost use Rattle.page_model.specs.Core.{is_closing};
     ghost use Rattle.page_model.specs.Setups.{has_page, is_writable};
     ghost use Rattle.serial_pager.specs.Rests.{IsAtRest};
 
@@ -29,7 +31,7 @@ impl<S: Store> Model for Small<S> {
 
     ghost view = { λ s. s.stripe.core.events };
 
-    ghost invariant = { λ s. record { rest : IsAtRest s.stripe.core; page_size : s.stripe.core.setup.page_size ≡ 64; pages : (p : ℕ) → p < 2 → has_page s.stripe.core.setup (record { region = 0; page = p }) ≡ true; writable : is_writable s.stripe.core.setup 0 ≡ true } };
+    ghost invariant = { λ s. record { rest : IsAtRest s.stripe.core; page_size : s.stripe.core.setup.page_size ≡ 64; pages : (p : ℕ) → p < 2 → has_page s.stripe.core.setup (record { region = 0; page = p }) ≡ true; writable : is_writable s.stripe.core.setup 0 ≡ true; open_ : is_closing s.stripe.core 0 ≡ false } };
 }
 
 impl<S: Store> Small<S> {
@@ -96,6 +98,7 @@ fn made<S: Store + Drop>(
 ) -> Result<SerialStripe<S, NoJournal>, Fail>
     requires can { CanMake config.now (map S.seen lanes.items) }
     ensures rest { IfOk result (λ s. IsAtRest s.core) }
+    ensures open_ { IfOk result (λ s. is_closing s.core 0 ≡ false) }
     ensures events { IfOk result (λ s. s.core.events ≡ 0) }
     ensures setup { IfOk result (λ s. s.core.setup ≡ setup_of config.now (map S.seen lanes.items)) }
 {
