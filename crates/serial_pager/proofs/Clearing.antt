@@ -28,7 +28,7 @@ use Rattle.serial_pager.specs.InsideServices.{Drops, FailsToWrite, Writes}
 use Rattle.serial_pager.specs.InsideUnmappings.{FailsToLeave, IsReadied}
 use Rattle.serial_pager.specs.Rests.{ClosesSame, IsAtRest}
 use Rattle.serial_pager.specs.Seen.{StripeSeen}
-use Rattle.serial_pager.specs.Unmappings.{Clears, ClosesOne, FailsToUnmap, Unmaps, begins, drops, leaves}
+use Rattle.serial_pager.specs.Unmappings.{Clears, ClosesOne, FailsToUnmap, Unmaps, begin_closing, drops, leaves_region}
 use Rattle.serial_pager.proofs.Closed.{closes_by, closes_nothing, closes_one, closes_only, closes_region, closes_same, unmaps_by, unmaps_nothing, unmaps_region, unmaps_same}
 use Rattle.serial_pager.proofs.Flushes.{keys_in, length_keys, quota_most}
 use Rattle.serial_pager.proofs.Goes.{all_both, went_twice}
@@ -149,12 +149,12 @@ module _ {X : Type 0} (c d : Core) (k : Key) where
   failed_events (Ok x) w f = ap (λ (v : Core). v.events) w.is
   failed_events (Err fault) w f = ap (λ (v : Core). v.events) f.is
 
-pub write_leaves : (k : Key) (at : ℕ) (bytes : List ℕ) → list_all (leaves k.region) (entry.Written k at bytes ∷ entry.StartWrite k Unmap ∷ []) ≡ true
+pub write_leaves : (k : Key) (at : ℕ) (bytes : List ℕ) → list_all (leaves_region k.region) (entry.Written k at bytes ∷ entry.StartWrite k Unmap ∷ []) ≡ true
 write_leaves k at bytes =
     let own : (k.region == k.region) ≡ true = eq-eqb k.region k.region refl in
     and_from (k.region == k.region) (((k.region == k.region) && true) && true) own (and_from ((k.region == k.region) && true) true (and_from (k.region == k.region) true own refl) refl)
 
-pub evict_leaves : (k : Key) → list_all (leaves k.region) (entry.Evicted k Unmap ∷ []) ≡ true
+pub evict_leaves : (k : Key) → list_all (leaves_region k.region) (entry.Evicted k Unmap ∷ []) ≡ true
 evict_leaves k = and_from ((k.region == k.region) && true) true (and_from (k.region == k.region) true (eq-eqb k.region k.region refl) refl) refl
 
 pub some_pages : (c : Core) (k : Key) → is_present c k ≡ true → 1 ≤ length c.pages
@@ -165,7 +165,7 @@ some_pages c k there = go c.pages there
     go (r ∷ rs) e = omega arith
 
 -- the write of the page that was to leave next failed
-pub fails_to_leave : {J : Type 0} (noted : J → History Entry → Type 0) (r : ℕ) (k : Key) (f : PageFault) (o a b : StripeSeen J) → k.region ≡ r → f.key ≡ k → WentBy 0 noted (leaves r) o a → FailsToWriteOut 0 noted k Unmap a b f → FailsToLeave 0 noted r o b f
+pub fails_to_leave : {J : Type 0} (noted : J → History Entry → Type 0) (r : ℕ) (k : Key) (f : PageFault) (o a b : StripeSeen J) → k.region ≡ r → f.key ≡ k → WentBy 0 noted (leaves_region r) o a → FailsToWriteOut 0 noted k Unmap a b f → FailsToLeave 0 noted r o b f
 fails_to_leave noted r k f o a b of key one two = record {
   region = ap (λ (j : Key). j.region) key ∙ of;
   before = one.entries;
@@ -192,15 +192,15 @@ few_pages laws c rest =
 
 -- ---- the entries
 
-leave_closes : (r : ℕ) (e : Entry) → leaves r e ≡ true → closes_nothing e ≡ true
+leave_closes : (r : ℕ) (e : Entry) → leaves_region r e ≡ true → closes_nothing e ≡ true
 leave_closes r (entry.Closing q) e = absurd cc
 leave_closes r x e = refl
 
-leave_only : (r : ℕ) (e : Entry) → leaves r e ≡ true → closes_only r e ≡ true
+leave_only : (r : ℕ) (e : Entry) → leaves_region r e ≡ true → closes_only r e ≡ true
 leave_only r (entry.Closing q) e = absurd cc
 leave_only r x e = refl
 
-leave_unmaps : (r : ℕ) (e : Entry) → leaves r e ≡ true → unmaps_nothing e ≡ true
+leave_unmaps : (r : ℕ) (e : Entry) → leaves_region r e ≡ true → unmaps_nothing e ≡ true
 leave_unmaps r (entry.Unmapped q) e = absurd cc
 leave_unmaps r x e = refl
 
@@ -216,17 +216,17 @@ drop_unmaps : (e : Entry) → drops e ≡ true → unmaps_nothing e ≡ true
 drop_unmaps (entry.Unmapped q) e = absurd cc
 drop_unmaps x e = refl
 
-pub leaving_closes : (laws : Laws) {J : Type 0} (noted : J → History Entry → Type 0) (r : ℕ) (old new : StripeSeen J) → IsAtRest old.core → WentBy 0 noted (leaves r) old new → ClosesSame old.core new.core
-leaving_closes laws noted r old new rest w = closes_same laws noted w.entries old new rest w.went (list_weaker (leaves r) closes_nothing w.entries (leave_closes r) w.pass)
+pub leaving_closes : (laws : Laws) {J : Type 0} (noted : J → History Entry → Type 0) (r : ℕ) (old new : StripeSeen J) → IsAtRest old.core → WentBy 0 noted (leaves_region r) old new → ClosesSame old.core new.core
+leaving_closes laws noted r old new rest w = closes_same laws noted w.entries old new rest w.went (list_weaker (leaves_region r) closes_nothing w.entries (leave_closes r) w.pass)
 
-begins_only : (c : Core) (r : ℕ) → list_all (closes_only r) (begins c r) ≡ true
+begins_only : (c : Core) (r : ℕ) → list_all (closes_only r) (begin_closing c r) ≡ true
 begins_only c r = go (is_closing c r)
   where
     go : (b : Bool) → list_all (closes_only r) (cond b [] (entry.Closing r ∷ [])) ≡ true
     go true = refl
     go false = and_from (r == r) true (eq-eqb r r refl) refl
 
-begins_unmaps : (c : Core) (r : ℕ) → list_all unmaps_nothing (begins c r) ≡ true
+begins_unmaps : (c : Core) (r : ℕ) → list_all unmaps_nothing (begin_closing c r) ≡ true
 begins_unmaps c r = go (is_closing c r)
   where
     go : (b : Bool) → list_all unmaps_nothing (cond b [] (entry.Closing r ∷ [])) ≡ true
@@ -234,7 +234,7 @@ begins_unmaps c r = go (is_closing c r)
     go false = refl
 
 -- the region closes behind them
-begun : (c : Core) (r : ℕ) → (list_any (closes_region r) (begins c r) || is_closing c r) ≡ true
+begun : (c : Core) (r : ℕ) → (list_any (closes_region r) (begin_closing c r) || is_closing c r) ≡ true
 begun c r = go (is_closing c r)
   where
     go : (b : Bool) → (list_any (closes_region r) (cond b [] (entry.Closing r ∷ [])) || b) ≡ true
@@ -250,20 +250,20 @@ begun_more r b (x ∷ xs) es e = go (closes_region r x) (begun_more r b xs es e)
     go false ih = ih
 
 module _ (laws : Laws) {J : Type 0} (noted : J → History Entry → Type 0) (r : ℕ) (o a b : StripeSeen J) (rest : IsAtRest o.core) (lt : r < regions o.core.setup)
-    (one : Went 0 noted (begins o.core r) o a) (two : WentBy 0 noted drops a b) where
+    (one : Went 0 noted (begin_closing o.core r) o a) (two : WentBy 0 noted drops a b) where
   pub closing_begun : is_closing a.core r ≡ true
-  closing_begun = closes_by laws noted (begins o.core r) o a rest one r lt ∙ begun o.core r
+  closing_begun = closes_by laws noted (begin_closing o.core r) o a rest one r lt ∙ begun o.core r
 
   abbrev so_far : List Entry
-  so_far = two.entries ++ begins o.core r
+  so_far = two.entries ++ begin_closing o.core r
 
   went_so_far : Went 0 noted so_far o b
-  went_so_far = went_twice noted (begins o.core r) two.entries o a b one two.went
+  went_so_far = went_twice noted (begin_closing o.core r) two.entries o a b one two.went
 
   pub closing_still : is_closing b.core r ≡ true
-  closing_still = closes_by laws noted so_far o b rest went_so_far r lt ∙ begun_more r (is_closing o.core r) two.entries (begins o.core r) (begun o.core r)
+  closing_still = closes_by laws noted so_far o b rest went_so_far r lt ∙ begun_more r (is_closing o.core r) two.entries (begin_closing o.core r) (begun o.core r)
 
-  module _ (d : StripeSeen J) (left : List Entry) (pass : list_all (leaves r) left ≡ true) (three : Went 0 noted left b d) where
+  module _ (d : StripeSeen J) (left : List Entry) (pass : list_all (leaves_region r) left ≡ true) (three : Went 0 noted left b d) where
     abbrev all_far : List Entry
     all_far = left ++ so_far
 
@@ -274,15 +274,15 @@ module _ (laws : Laws) {J : Type 0} (noted : J → History Entry → Type 0) (r 
     clears = record { left = left; dropped = two.entries; is = refl; leave = pass; drop = two.pass }
 
     pub closing_far : is_closing d.core r ≡ true
-    closing_far = closes_by laws noted all_far o d rest went_far r lt ∙ begun_more r (is_closing o.core r) left so_far (begun_more r (is_closing o.core r) two.entries (begins o.core r) (begun o.core r))
+    closing_far = closes_by laws noted all_far o d rest went_far r lt ∙ begun_more r (is_closing o.core r) left so_far (begun_more r (is_closing o.core r) two.entries (begin_closing o.core r) (begun o.core r))
 
     only_far : list_all (closes_only r) all_far ≡ true
-    only_far = all_both noted (closes_only r) left so_far (list_weaker (leaves r) (closes_only r) left (leave_only r) pass)
-        (all_both noted (closes_only r) two.entries (begins o.core r) (list_weaker drops (closes_only r) two.entries (drop_only r) two.pass) (begins_only o.core r))
+    only_far = all_both noted (closes_only r) left so_far (list_weaker (leaves_region r) (closes_only r) left (leave_only r) pass)
+        (all_both noted (closes_only r) two.entries (begin_closing o.core r) (list_weaker drops (closes_only r) two.entries (drop_only r) two.pass) (begins_only o.core r))
 
     unmaps_far : list_all unmaps_nothing all_far ≡ true
-    unmaps_far = all_both noted unmaps_nothing left so_far (list_weaker (leaves r) unmaps_nothing left (leave_unmaps r) pass)
-        (all_both noted unmaps_nothing two.entries (begins o.core r) (list_weaker drops unmaps_nothing two.entries drop_unmaps two.pass) (begins_unmaps o.core r))
+    unmaps_far = all_both noted unmaps_nothing left so_far (list_weaker (leaves_region r) unmaps_nothing left (leave_unmaps r) pass)
+        (all_both noted unmaps_nothing two.entries (begin_closing o.core r) (list_weaker drops unmaps_nothing two.entries drop_unmaps two.pass) (begins_unmaps o.core r))
 
     pub mapped_far : is_unmapped o.core r ≡ false → is_unmapped d.core r ≡ false
     mapped_far first = unmaps_same laws noted all_far o d rest went_far r lt unmaps_far ∙ first
@@ -326,12 +326,12 @@ module _ (laws : Laws) {J : Type 0} (noted : J → History Entry → Type 0) (r 
     went_fail = went_twice noted so_far (entry.WriteFailed f.key f.faults ∷ entry.StartWrite f.key Unmap ∷ w.before) o b d went_so_far w.went
 
     only_fail : list_all (closes_only r) fail_far ≡ true
-    only_fail = all_both noted (closes_only r) w.before so_far (list_weaker (leaves r) (closes_only r) w.before (leave_only r) w.pass)
-        (all_both noted (closes_only r) two.entries (begins o.core r) (list_weaker drops (closes_only r) two.entries (drop_only r) two.pass) (begins_only o.core r))
+    only_fail = all_both noted (closes_only r) w.before so_far (list_weaker (leaves_region r) (closes_only r) w.before (leave_only r) w.pass)
+        (all_both noted (closes_only r) two.entries (begin_closing o.core r) (list_weaker drops (closes_only r) two.entries (drop_only r) two.pass) (begins_only o.core r))
 
     unmaps_fail : list_all unmaps_nothing fail_far ≡ true
-    unmaps_fail = all_both noted unmaps_nothing w.before so_far (list_weaker (leaves r) unmaps_nothing w.before (leave_unmaps r) w.pass)
-        (all_both noted unmaps_nothing two.entries (begins o.core r) (list_weaker drops unmaps_nothing two.entries drop_unmaps two.pass) (begins_unmaps o.core r))
+    unmaps_fail = all_both noted unmaps_nothing w.before so_far (list_weaker (leaves_region r) unmaps_nothing w.before (leave_unmaps r) w.pass)
+        (all_both noted unmaps_nothing two.entries (begin_closing o.core r) (list_weaker drops unmaps_nothing two.entries drop_unmaps two.pass) (begins_unmaps o.core r))
 
     page_fail : has_page o.core.setup f.key ≡ true
     page_fail = subst (λ s. has_page s f.key ≡ true) went_fail.setup (went_fail.stands rest.history rest.stands).legal.1
@@ -346,7 +346,7 @@ module _ (laws : Laws) {J : Type 0} (noted : J → History Entry → Type 0) (r 
         before = w.before ++ so_far;
         is = refl;
         clears = record { left = w.before; dropped = two.entries; is = refl; leave = w.pass; drop = two.pass };
-        closing = closes_by laws noted fail_far o d rest went_fail r lt ∙ begun_more r (is_closing o.core r) w.before so_far (begun_more r (is_closing o.core r) two.entries (begins o.core r) (begun o.core r));
+        closing = closes_by laws noted fail_far o d rest went_fail r lt ∙ begun_more r (is_closing o.core r) w.before so_far (begun_more r (is_closing o.core r) two.entries (begin_closing o.core r) (begun o.core r));
         mapped = unmaps_same laws noted fail_far o d rest went_fail r lt unmaps_fail ∙ first;
       };
     }

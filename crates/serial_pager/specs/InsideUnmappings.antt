@@ -10,7 +10,7 @@ use Rattle.page_model.specs.Core.{Core, is_dirty, is_present}
 use Rattle.serial_pager.specs.declared.fault.PageFault.{PageFault}
 use Rattle.serial_pager.specs.Seen.{StripeSeen}
 use Rattle.serial_pager.specs.Goings.{Went}
-use Rattle.serial_pager.specs.Unmappings.{leaves}
+use Rattle.serial_pager.specs.Unmappings.{leaves_region}
 
 -- the page may leave, and as many pages are resident as before
 pub record IsReadied (k : Key) (c d : Core) : Type 0 where
@@ -22,5 +22,5 @@ pub record IsReadied (k : Key) (c d : Core) : Type 0 where
 pub record FailsToLeave {J : Type 0} (owner : ℕ) (has_noted : J → History Entry → Type 0) (r : ℕ) (old new : StripeSeen J) (f : PageFault) : Type 0 where
   pub region : f.key.region ≡ r
   pub before : List Entry
-  pub pass : list_all (leaves r) before ≡ true
+  pub pass : list_all (leaves_region r) before ≡ true
   pub went : Went owner has_noted (WriteFailed f.key f.faults ∷ StartWrite f.key Unmap ∷ before) old new

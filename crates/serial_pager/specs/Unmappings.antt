@@ -14,11 +14,11 @@ is_unmap Unmap = true
 is_unmap why = false
 
 -- the entry is of a write of one of the region's pages for its unmapping, or of such a page's eviction
-abbrev pub leaves : (region : ℕ) → Entry → Bool
-leaves r (StartWrite k why) = k.region == r && is_unmap why
-leaves r (Written k at bytes) = k.region == r
-leaves r (Evicted k why) = k.region == r && is_unmap why
-leaves r e = false
+abbrev pub leaves_region : (region : ℕ) → Entry → Bool
+leaves_region r (StartWrite k why) = k.region == r && is_unmap why
+leaves_region r (Written k at bytes) = k.region == r
+leaves_region r (Evicted k why) = k.region == r && is_unmap why
+leaves_region r e = false
 
 -- the entry drops a fault
 abbrev pub drops : Entry → Bool
@@ -26,16 +26,16 @@ drops (Dropped k) = true
 drops e = false
 
 -- the entry that begins to close the region, where it doesn't close yet
-abbrev pub begins : Core → (region : ℕ) → List Entry
-begins c r = if is_closing c r then [] else Closing r ∷ []
+abbrev pub begin_closing : Core → (region : ℕ) → List Entry
+begin_closing c r = if is_closing c r then [] else Closing r ∷ []
 
 -- By these entries, the newest first: the region began to close where it didn't before, then faults were dropped, and then its
 -- pages were written and evicted.
 pub record Clears (r : ℕ) (old : Core) (es : List Entry) : Type 0 where
   pub left : List Entry
   pub dropped : List Entry
-  pub is : es ≡ left ++ (dropped ++ begins old r)
-  pub leave : list_all (leaves r) left ≡ true
+  pub is : es ≡ left ++ (dropped ++ begin_closing old r)
+  pub leave : list_all (leaves_region r) left ≡ true
   pub drop : list_all drops dropped ≡ true
 
 -- and then the region was unmapped

@@ -30,7 +30,8 @@ fn flush_stripes<S: Store, J: Journal>(
     ensures goes { GoesEach ClosesSame stripes.old.items stripes.new.items }
     ensures made { all_made J.made_with stripes.new.items ≡ all_made J.made_with stripes.old.items }
     ensures ok { OnOk result (EachDid 0 J.has_noted WritesAll stripes.old.items stripes.new.items) }
-    ensures err { IfErr result (λ f. OneFailed 0 J.has_noted WritesAll (WritesUpTo f) stripes.old.items stripes.new.items) }
+    ensures err { IfErr result (λ f. OneFailed 0 J.has_noted WritesAll (WritesUpTo f)
+        stripes.old.items stripes.new.items) }
 {
     for stripe in 0..stripes.len() {
         match stripes[stripe].flush(scratch) {
@@ -53,7 +54,8 @@ fn unmap_stripes<S: Store, J: Journal>(
     ensures goes { GoesEach (ClosesOne region) stripes.old.items stripes.new.items }
     ensures made { all_made J.made_with stripes.new.items ≡ all_made J.made_with stripes.old.items }
     ensures ok { OnOk result (EachDid 0 J.has_noted (Unmaps region) stripes.old.items stripes.new.items) }
-    ensures err { IfErr result (λ f. OneFailed 0 J.has_noted (Unmaps region) (FailsToUnmap region f) stripes.old.items stripes.new.items) }
+    ensures err { IfErr result (λ f. OneFailed 0 J.has_noted (Unmaps region) (FailsToUnmap region f)
+        stripes.old.items stripes.new.items) }
 {
     for stripe in 0..stripes.len() {
         match stripes[stripe].unmap(scratch, region) {

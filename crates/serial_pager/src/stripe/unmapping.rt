@@ -13,7 +13,7 @@ ghost use Rattle.serial_pager.specs.InsideGoings.{WentBy, FailsToWriteOut};
 ghost use Rattle.serial_pager.specs.InsideUnmappings.{IsReadied, FailsToLeave};
 ghost use Rattle.serial_pager.specs.Rests.{IsAtRest};
 ghost use Rattle.serial_pager.specs.Seen.{fixed_of};
-ghost use Rattle.serial_pager.specs.Unmappings.{Unmaps, FailsToUnmap, ClosesOne, begins, drops, leaves};
+ghost use Rattle.serial_pager.specs.Unmappings.{Unmaps, FailsToUnmap, ClosesOne, begin_closing, drops, leaves_region};
 
 use crate::fault::PageFault;
 use crate::laws::model_laws;
@@ -75,7 +75,7 @@ impl<S: Store, J: Journal> SerialStripe<S, J> {
         requires region { region < regions self.old.core.setup }
         ensures rest { IsAtRest self.new.core }
         ensures made { J.made_with self.new.journal ≡ J.made_with self.old.journal }
-        ensures went { Went 0 J.has_noted (begins self.old.core region) self.old self.new }
+        ensures went { Went 0 J.has_noted (begin_closing self.old.core region) self.old self.new }
         ensures few { self.new.core.events ≤ self.old.core.events + 1 }
     {
         model_laws();
@@ -112,7 +112,7 @@ impl<S: Store, J: Journal> SerialStripe<S, J> {
         ensures made { J.made_with self.new.journal ≡ J.made_with self.old.journal }
         ensures queue { self.new.core.queue ≡ self.old.core.queue }
         ensures few { self.new.core.events ≤ self.old.core.events + 3 * length self.old.core.pages }
-        ensures ok { OnOk result (WentBy 0 J.has_noted (leaves region) self.old self.new) }
+        ensures ok { OnOk result (WentBy 0 J.has_noted (leaves_region region) self.old self.new) }
         ensures none { OnOk result (core.oldest_of self.new.core region ≡ None) }
         ensures err { IfErr result (FailsToLeave 0 J.has_noted region self.old self.new) }
     {
@@ -139,7 +139,7 @@ impl<S: Store, J: Journal> SerialStripe<S, J> {
         ensures made { J.made_with self.new.journal ≡ J.made_with self.old.journal }
         ensures queue { self.new.core.queue ≡ self.old.core.queue }
         ensures few { self.new.core.events ≤ self.old.core.events + 3 }
-        ensures went { OnOk result (WentBy 0 J.has_noted (leaves key.region) self.old self.new) }
+        ensures went { OnOk result (WentBy 0 J.has_noted (leaves_region key.region) self.old self.new) }
         ensures fewer { OnOk result (length self.new.core.pages < length self.old.core.pages) }
         ensures ends { IfErr result (λ f. FailsToWriteOut 0 J.has_noted key Unmap self.old self.new f) }
         ensures key { IfErr result (λ f. f.key ≡ key) }
@@ -165,7 +165,7 @@ impl<S: Store, J: Journal> SerialStripe<S, J> {
         ensures made { J.made_with self.new.journal ≡ J.made_with self.old.journal }
         ensures queue { self.new.core.queue ≡ self.old.core.queue }
         ensures few { self.new.core.events ≤ self.old.core.events + 2 }
-        ensures went { OnOk result (WentBy 0 J.has_noted (leaves key.region) self.old self.new) }
+        ensures went { OnOk result (WentBy 0 J.has_noted (leaves_region key.region) self.old self.new) }
         ensures ready { OnOk result (IsReadied key self.old.core self.new.core) }
         ensures ends { IfErr result (λ f. FailsToWriteOut 0 J.has_noted key Unmap self.old self.new f) }
         ensures key { IfErr result (λ f. f.key ≡ key) }

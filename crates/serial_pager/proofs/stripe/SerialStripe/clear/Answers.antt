@@ -2,13 +2,13 @@ use Rattle.std.proofs.Common.{Some, ap, arith, refl, rules, subst, sym, ◌∙�
 use Rattle.page_model.specs.Core.{is_closing, oldest_of}
 use Rattle.page_model.specs.Readers.{IsHeldOf}
 use Rattle.serial_pager.specs.InsideGoings.{WentBy}
-use Rattle.serial_pager.specs.Unmappings.{leaves}
+use Rattle.serial_pager.specs.Unmappings.{leaves_region}
 use Rattle.serial_pager.proofs.Clearing.{fails_to_leave, leaving_closes, some_pages}
 use Rattle.serial_pager.proofs.Goes.{by_none, by_twice}
 use Rattle.serial_pager.proofs.stripe.SerialStripe.clear.Goals as goal
 
 pub pages-init : goal.pages-init
-pages-init g c = record { rest = c.requires.rest; went = by_none g.J.Journal.has_noted (leaves c.args.region) c.args.self.now; queue = refl; few = omega arith; made = refl }
+pages-init g c = record { rest = c.requires.rest; went = by_none g.J.Journal.has_noted (leaves_region c.args.region) c.args.self.now; queue = refl; few = omega arith; made = refl }
 
 pub let_leave-requires : goal.let_leave-requires
 let_leave-requires g c =
@@ -33,11 +33,11 @@ pages-preserved g c =
     let i = c.pages.invariant in
     let at : oldest_of c.pages.self.core c.args.region ≡ Some c.in-Some.pick = ap (λ v. oldest_of v.core c.args.region) (sym c.self.view_is) ∙ (sym c.oldest_of.ensures.exact ∙ c.in-Some.is) in
     let held : IsHeldOf c.pages.self.core c.args.region c.in-Some.pick = c.picks_know.ensures.oldest i.rest.history c.pages.self.core c.args.region c.in-Some.pick i.rest.stands at in
-    let went : WentBy 0 g.J.Journal.has_noted (leaves c.args.region) c.pages.self c.let_leave.new.self = subst (λ r. WentBy 0 g.J.Journal.has_noted (leaves r) c.pages.self c.let_leave.new.self) held.region c.in-Ok.ensures.went in
+    let went : WentBy 0 g.J.Journal.has_noted (leaves_region c.args.region) c.pages.self c.let_leave.new.self = subst (λ r. WentBy 0 g.J.Journal.has_noted (leaves_region r) c.pages.self c.let_leave.new.self) held.region c.in-Ok.ensures.went in
     let less = c.in-Ok.ensures.fewer in
     record {
       rest = c.let_leave.ensures.rest;
-      went = by_twice g.J.Journal.has_noted (leaves c.args.region) c.args.self.now c.pages.self c.let_leave.new.self i.went went;
+      went = by_twice g.J.Journal.has_noted (leaves_region c.args.region) c.args.self.now c.pages.self c.let_leave.new.self i.went went;
       queue = c.let_leave.ensures.queue ∙ i.queue;
       few = omega (arith, i.few, less, c.let_leave.ensures.few);
       made = c.let_leave.ensures.made ∙ i.made;

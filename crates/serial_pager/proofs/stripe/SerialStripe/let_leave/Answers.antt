@@ -2,7 +2,7 @@ use Rattle.std.proofs.Common.{[], ◌∷◌, ap, arith, length, refl, subst, sym
 use Rattle.page_model.specs.Core.{Core}
 use Rattle.page_model.specs.declared.entry.Cause.TheVariants.{Unmap}
 use Rattle.page_model.specs.declared.entry.Entry.TheVariants as entry
-use Rattle.serial_pager.specs.Unmappings.{leaves}
+use Rattle.serial_pager.specs.Unmappings.{leaves_region}
 use Rattle.serial_pager.proofs.Clearing.{evict_leaves, evicted_fewer, leaving_closes}
 use Rattle.serial_pager.proofs.Goes.{by_these, by_twice}
 use Rattle.serial_pager.proofs.Rooms.{idle_page}
@@ -35,8 +35,8 @@ returns-clause-few g c =
 
 pub returns-clause-went : goal.returns-clause-went
 returns-clause-went g c =
-    by_twice g.J.Journal.has_noted (leaves c.args.key.region) c.args.self.now c.make_clean.new.self c.evict.new.self c.in-Ok.ensures.went
-    (by_these g.J.Journal.has_noted (leaves c.args.key.region) (entry.Evicted c.args.key Unmap ∷ []) c.make_clean.new.self c.evict.new.self c.evict.ensures.went (evict_leaves c.args.key))
+    by_twice g.J.Journal.has_noted (leaves_region c.args.key.region) c.args.self.now c.make_clean.new.self c.evict.new.self c.in-Ok.ensures.went
+    (by_these g.J.Journal.has_noted (leaves_region c.args.key.region) (entry.Evicted c.args.key Unmap ∷ []) c.make_clean.new.self c.evict.new.self c.evict.ensures.went (evict_leaves c.args.key))
 
 pub returns-clause-fewer : goal.returns-clause-fewer
 returns-clause-fewer g c =
