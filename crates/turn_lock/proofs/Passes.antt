@@ -8,13 +8,13 @@ use Rattle.turn_lock.specs.declared.view.Turn.TheVariants.{Out, Waits, Inside}
 use Rattle.turn_lock.specs.declared.view.View.{View}
 use Rattle.turn_lock.specs.Seen.{LockSeen}
 use Rattle.turn_lock.specs.Fields.{lock_seen}
-use Rattle.turn_lock.specs.InsideFields.{is_waiting, IsSound}
+use Rattle.turn_lock.specs.InsideFields.{waits_for_turn, IsSound}
 use Rattle.turn_lock.specs.Views.{is_inside}
 use Rattle.turn_lock.specs.InsideViews.{seats_of, new_view}
 use Rattle.turn_lock.specs.InsidePlays.{Known}
 
 -- a pass that is in no hold has no ticket
-pub is_out : (turn : Turn) → is_waiting turn ≡ false → is_inside turn ≡ false → turn ≡ Out
+pub is_out : (turn : Turn) → waits_for_turn turn ≡ false → is_inside turn ≡ false → turn ≡ Out
 is_out Out w i = refl
 is_out (Waits n) w i = absurd (true≢false w)
 is_out (Inside n) w i = absurd (true≢false i)

@@ -7,10 +7,10 @@ use Rattle.turn_lock.specs.declared.view.Turn.{Turn}
 use Rattle.turn_lock.specs.declared.view.Turn.TheVariants.{Out, Waits, Inside}
 use Rattle.turn_lock.specs.declared.view.View.{View}
 
-abbrev pub is_waiting : Turn → Bool
-is_waiting Out = false
-is_waiting (Waits n) = true
-is_waiting (Inside n) = false
+abbrev pub waits_for_turn : Turn → Bool
+waits_for_turn Out = false
+waits_for_turn (Waits n) = true
+waits_for_turn (Inside n) = false
 
 module _ {T : Type 0} where
   -- in a hold the value is out of the slot, which the pass's seat has
@@ -29,6 +29,6 @@ module _ {T E : Type 0} where
     pub left_is : left + me.0.holds ≡ terms.holds
     pub out_is : number ≡ 0 → out + length me.0.ended + spare + 1 ≡ terms.seats
     pub fits : out + length me.0.ended + spare + 1 ≤ terms.seats
-    pub settled : is_waiting me.0.turn ≡ false
+    pub settled : waits_for_turn me.0.turn ≡ false
     pub slots : me.1 ≡ slots_of me.0.turn
     pub own : calls_of me.0.number me.0.seen ≡ me.0.mine

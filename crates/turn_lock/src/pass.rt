@@ -49,6 +49,13 @@ impl<T, E> Seated<T, E> {
         self.left
     }
 
+    /// The further passes that it may split off.
+    pub fn spare(&self) -> u32
+        ensures { result ≡ self.now.spare }
+    {
+        self.spare
+    }
+
     /// Its number, by which the history names its entries; 0 is the first pass's.
     pub fn number(&self) -> u32
         ensures { result ≡ self.now.number }
