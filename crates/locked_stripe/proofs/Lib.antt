@@ -1,0 +1,9 @@
+pub mod Goes
+pub mod Open
+pub mod Places
+pub mod Results
+pub mod Holdings
+pub mod Found
+pub mod WholeTrips
+pub mod Helping
+pub mod Trying

@@ -1,0 +1,12 @@
+pub mod Answers
+pub mod Calls
+pub mod Holds
+pub mod InsideCalls
+pub mod InsideHolds
+pub mod InsideLaws
+pub mod InsideLooks
+pub mod InsideTrips
+pub mod Serves
+pub mod Terms
+pub mod TripLaws
+pub mod WholeTrips
