@@ -1,0 +1,14 @@
+pub mod Added
+pub mod Dividing
+pub mod Ending
+pub mod Fresh
+pub mod Leaving
+pub mod Locking
+pub mod Locks
+pub mod Parts
+pub mod Refused
+pub mod Results
+pub mod Showing
+pub mod Stopping
+pub mod Trips
+pub mod Whole

@@ -1,0 +1,12 @@
+pub mod Ended
+pub mod InsideEnded
+pub mod InsideLaws
+pub mod InsideOpened
+pub mod InsideParts
+pub mod Opened
+pub mod Passes
+pub mod Ranges
+pub mod Shared
+pub mod TripLaws
+pub mod Went
+pub mod WholePasses
