@@ -90,6 +90,15 @@ module _ {P : Type 0} (seen : P → PartSeen) (dir : List ℕ) (m : Meta) (xs : 
               out = left.1;
             }
 
+-- the parts that were just opened are out
+pub all_out : {P : Type 0} (seen : P → PartSeen) (dir : List ℕ) (m : Meta) (xs : List P) → map (λ (x : P). (seen x).name) xs ≡ file_names dir m
+    → (old new : Option Shelf) → new ≡ option_map (opened (file_names dir m)) old → IfSome new (λ s. AreAllOut (map seen xs) s.out)
+all_out seen dir m xs names old None is = tt
+all_out seen dir m xs names None (Some s) is = absurd (cc)
+all_out seen dir m xs names (Some old) (Some s) is =
+    subst (λ (t : Option Shelf). IfSome t (λ s. AreAllOut (map seen xs) s.out)) (sym is)
+    (names_out (map seen xs) old.out (file_names dir m) (names_map seen xs ∙ names))
+
 -- the parts of a store, whatever they tell, are apart
 pub files_apart : {P : Type 0} (seen : P → PartSeen) (dir : List ℕ) (m : Meta) (xs : List P) → IsShape m → AreFiles seen dir m xs → AreApart (map seen xs)
 files_apart seen dir m xs shape files = seen_apart seen dir m.file xs (omega (arith, files.count, shape.few_files)) files.names

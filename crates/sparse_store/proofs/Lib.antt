@@ -1,6 +1,8 @@
 pub mod Spellings
 pub mod Refusing
 pub mod Metas
+pub mod LaneFiles
+pub mod LanePages
 pub mod PartLists
 pub mod FilePaths
 pub mod ClosingParts

@@ -1,12 +1,16 @@
 -- Parts of several files that are closed.
-use Rattle.std.specs.Prelude.{◌≡◌, ◌≢◌, ℕ, Bool, false, ◌||◌, nat_lt, List, [], ◌∷◌, slice_get, Some}
+use Rattle.std.specs.Prelude.{◌≡◌, ◌≢◌, ℕ, Bool, false, ◌||◌, nat_lt, List, [], ◌∷◌, map, slice_get, Some, IfSome}
 use Rattle.std.specs.List.{Contains}
 use Rattle.file_store.specs.Parts.{PartName, PartSeen}
-use Rattle.file_store.specs.Shelves.{Shelf, file_at, without, PutsBack}
+use Rattle.file_store.specs.Shelves.{Shelf, FolderSeen, file_at, without, PutsBack}
 
 -- each of the parts is out
 abbrev pub AreAllOut : List PartSeen → List PartName → Type 0
 AreAllOut parts out = (k : ℕ) (p : PartSeen) → slice_get parts k ≡ Some p → Contains out p.name
+
+-- so they are where files are told
+abbrev pub ArePartsOut : {P : Type 0} → (P → PartSeen) → FolderSeen → List P → Type 0
+ArePartsOut seen folder parts = IfSome folder.told (λ s. AreAllOut (map seen parts) s.out)
 
 abbrev pub without_each : List PartSeen → List PartName → List PartName
 without_each [] out = out

@@ -1,7 +1,12 @@
 pub mod Closings
 pub mod Files
+pub mod InsideFiles
+pub mod InsideLaneFiles
+pub mod InsideMetas
 pub mod InsideOpenings
 pub mod InsideStores
-pub mod InsideMetas
+pub mod LaneLaws
 pub mod Metas
 pub mod Openings
+pub mod SparseFiles
+pub mod SparseLanes

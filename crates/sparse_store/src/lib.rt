@@ -1,5 +1,6 @@
 //! Sparse stores: many files of one length in a folder, as one region. What stands so far is the text of a store's metadata,
-//! and the store as a whole: created, opened and closed.
+//! the store as a whole, created, opened and closed, and reading and writing a stripe's share of it; splitting a store into such
+//! lanes is still to come.
 //!
 //! It stands on the folders and parts of `file_store`, on `page_base`, and on the kit's `itoa` and `thiserror`. `read_meta`
 //! promises that it accepts exactly the texts that `meta_text` prints, and names of any other how far it goes with one;
@@ -9,6 +10,8 @@
 
 mod close;
 mod fault;
+mod file;
+mod lane;
 mod meta;
 mod paths;
 mod store;
@@ -16,5 +19,6 @@ mod store;
 mod tests;
 
 pub use fault::SparseFault;
+pub use lane::SparseLane;
 pub use meta::{BadMeta, META_ROOM, MOST_META_NUMBER, Meta, read_meta, write_meta};
 pub use store::{MOST_FILES, SparseStore};

@@ -3,7 +3,7 @@ ghost use Rattle.std.specs.Prelude.{◌≡◌, ◌≤◌, [], ◌∷◌, true, m
 ghost use Rattle.page_base.specs.Lanes.{Rose};
 ghost use Rattle.file_store.specs.Parts.{WhereTold};
 ghost use Rattle.file_store.specs.Folders.{AreOut, OfFile, HasFolderCause, WritesNew, OnlyFile, RefusesNew, IsFailed, IsOpenedWhole, whole_name};
-ghost use Rattle.sparse_store.specs.Closings.{AreAllOut, ClosesEach, HasSame, any_fault};
+ghost use Rattle.sparse_store.specs.Closings.{ArePartsOut, ClosesEach, HasSame, any_fault};
 ghost use Rattle.sparse_store.specs.Files.{IsShape, NoneOutIn, AreFilesOpened, file_names, file_path};
 ghost use Rattle.sparse_store.specs.InsideStores.{AreFiles};
 ghost use Rattle.sparse_store.specs.Metas.{meta_text, IsMeta};
@@ -158,6 +158,7 @@ impl<P: Part + Drop> SparseStore<P> {
         ensures shape { IfOk result (λ store. store.shape ≡ shape) }
         ensures parts { IfOk result (λ store. AreFilesOpened
             P.seen (F.seen folder.old).told dir.now.items shape store.parts.items) }
+        ensures ours { IfOk result (λ store. ArePartsOut P.seen (F.seen folder.new) store.parts.items) }
         ensures created { OnOk result (WhereTold (Creates dir.now.items shape)
             (F.seen folder.old).told (F.seen folder.new).told) }
         ensures err { IfErr result (λ fault. WhereTold (LeavesFiles dir.now.items shape fault)
@@ -184,6 +185,7 @@ impl<P: Part + Drop> SparseStore<P> {
             }
         }
     }
+
     /// Opens the store in a folder, whose metadata has to be that of the numbers that are asked for. Nothing is written.
     pub fn open<F: Folder<Part = P>>(
         folder: &mut F,
@@ -197,6 +199,7 @@ impl<P: Part + Drop> SparseStore<P> {
         ensures shape { IfOk result (λ store. store.shape ≡ asked) }
         ensures parts { IfOk result (λ store. AreFilesOpened
             P.seen (F.seen folder.old).told dir.now.items asked store.parts.items) }
+        ensures ours { IfOk result (λ store. ArePartsOut P.seen (F.seen folder.new) store.parts.items) }
         ensures out { OnOk result (AreOut (file_names dir.now.items asked) (F.seen folder.old) (F.seen folder.new)) }
         ensures err { OnErr result (WhereTold HasSame (F.seen folder.old).told (F.seen folder.new).told) }
         ensures only { IfErr result RefusesOpening }
@@ -216,7 +219,7 @@ impl<P: Part + Drop> SparseStore<P> {
 
     /// Closes the parts of all files. The folder's count rises where a call of a part failed. It takes no memory.
     pub fn close<F: Folder<Part = P>>(self, folder: &mut F)
-        requires out { IfSome (F.seen folder.old).told (λ s. AreAllOut (map P.seen self.parts.items) s.out) }
+        requires out { ArePartsOut P.seen (F.seen folder.old) self.parts.items }
         ensures closed { WhereTold (ClosesEach (map P.seen self.parts.items))
             (F.seen folder.old).told (F.seen folder.new).told }
         ensures later { (F.seen folder.old).count ≤ (F.seen folder.new).count }

@@ -33,6 +33,13 @@ close_parts-requires-clause-out g c =
     subst (λ (xs : List _). IfSome now.told (λ s. AreAllOut (map seen xs) s.out)) (sym c.into_vec.ensures)
     (parts_out seen c.args.dir.now.items c.args.shape c.in_ok-parts.parts.items c.requires.shape _ c.in_ok-parts.ensures.parts c.in_ok-parts.ensures.names mid.told now.told c.in_ok-meta.meta.items c.in_ok-parts.ensures.out c.in-Err.ensures.others)
 
+pub returns-in-Ok-clause-ours : goal.returns-in-Ok-clause-ours
+returns-in-Ok-clause-ours g c =
+    let seen = g.P.Part.seen in
+    let mid = g.F.Folder.seen c.open_files.new.folder in
+    let now = g.F.Folder.seen c.write_text.new.folder in
+    parts_out seen c.args.dir.now.items c.args.shape c.in_ok-parts.parts.items c.requires.shape _ c.in_ok-parts.ensures.parts c.in_ok-parts.ensures.names mid.told now.told c.in_ok-meta.meta.items c.in_ok-parts.ensures.out c.in-Ok.ensures.others
+
 pub returns-clause-err : goal.returns-clause-err
 returns-clause-err g c =
     let seen = g.P.Part.seen in

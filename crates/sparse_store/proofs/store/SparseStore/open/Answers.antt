@@ -1,6 +1,6 @@
 use Rattle.std.proofs.Common.{ℕ, List, sym, subst, ◌∙◌}
 use Rattle.sparse_store.specs.InsideStores.{AreFiles}
-use Rattle.sparse_store.proofs.Creating.{are_files}
+use Rattle.sparse_store.proofs.Creating.{are_files, all_out}
 use Rattle.sparse_store.proofs.store.SparseStore.open.Goals as goal
 
 pub invariant_of-result : goal.invariant_of-result
@@ -10,3 +10,10 @@ invariant_of-result g c =
       shaped = c.requires.shape;
       files = subst (λ (dir : List ℕ). AreFiles seen dir c.args.asked c.in_ok-parts.parts.items) (sym (c.in_ok-own.ensures.items ∙ c.as_slice.ensures)) (are_files seen c.args.dir.now.items c.args.asked c.in_ok-parts.parts.items c.requires.shape _ c.in_ok-parts.ensures.parts);
     }
+
+pub returns-clause-ours : goal.returns-clause-ours
+returns-clause-ours g c =
+    let seen = g.P.Part.seen in
+    let now = g.F.Folder.seen c.look.new.folder in
+    let new = g.F.Folder.seen c.open_files.new.folder in
+    all_out seen c.args.dir.now.items c.args.asked c.in_ok-parts.parts.items c.in_ok-parts.ensures.names now.told new.told c.in_ok-parts.ensures.out
