@@ -1,6 +1,7 @@
 -- Unmapping a region in one stripe: what each of its steps leaves.
-use Rattle.std.proofs.Common.{Bool, Err, IfErr, List, None, Ok, OnOk, Option, Result, Some, [], ap, arith, cond, false, find, inl, inr, is_some, length, map, not, refl, slice_get, subst, sym, true, ℕ, ◌&&◌, ◌*◌, ◌+◌, ◌++◌, ◌∙◌, ◌∷◌, ◌≡◌, ◌<◌, ◌==◌, ◌≤◌, ◌||◌}
-use Rattle.std.proofs.lemmas.Bool.{and_from, cases_Bool, cases_eq, cond-true, cond-false, eq-eqb, eqb-true, false_from_ne_true, or_cases, or_left}
+use Rattle.serial_pager.proofs.Lists.{any_map, some_found}
+use Rattle.std.proofs.Common.{Bool, Err, IfErr, List, None, Ok, OnOk, Option, Result, Some, [], ap, arith, cond, false, find, inl, inr, is_some, length, map, not, refl, slice_get, subst, sym, true, ℕ, ◌&&◌, ◌+◌, ◌++◌, ◌∙◌, ◌∷◌, ◌≡◌, ◌<◌, ◌==◌, ◌≤◌, ◌||◌}
+use Rattle.std.proofs.lemmas.Bool.{and_from, and_parts, cases_eq, eq-eqb, eqb-true, or_left}
 use Rattle.std.proofs.lemmas.List.Folds.{list_all-append}
 use Rattle.std.specs.List.{list_all, list_any}
 use Rattle.std.specs.Option.{option_map}
@@ -12,7 +13,7 @@ use Rattle.page_model.specs.declared.entry.Cause.TheVariants.{Unmap}
 use Rattle.page_model.specs.declared.entry.Entry.{Entry}
 use Rattle.page_model.specs.declared.entry.Entry.TheVariants as entry
 use Rattle.page_model.specs.declared.seen.Next.TheVariants as serve
-use Rattle.page_model.specs.Core.{Core, RegionSeen, Resident, is_closing, is_dirty, is_home, is_home_place, is_present, is_quiet, is_servable, is_stale, is_unmapped, next, oldest_of, pick_of, place_passes, waits_for_room}
+use Rattle.page_model.specs.Core.{Core, RegionSeen, Resident, is_closing, is_home, is_home_place, is_present, is_quiet, is_servable, is_stale, is_unmapped, next, oldest_of, pick_of, place_passes, waits_for_room}
 use Rattle.page_model.specs.Closings.{is_clear}
 use Rattle.page_model.specs.Events.{CanUnmap}
 use Rattle.page_model.specs.Faults.{is_protected_why}
@@ -28,17 +29,15 @@ use Rattle.serial_pager.specs.InsideServices.{Drops, FailsToWrite, Writes}
 use Rattle.serial_pager.specs.InsideUnmappings.{FailsToLeave, IsReadied}
 use Rattle.serial_pager.specs.Rests.{ClosesSame, IsAtRest}
 use Rattle.serial_pager.specs.Seen.{StripeSeen}
-use Rattle.serial_pager.specs.Unmappings.{Clears, ClosesOne, FailsToUnmap, Unmaps, begin_closing, drops, leaves_region}
+use Rattle.serial_pager.specs.Unmappings.{Clears, ClosesOne, FailsToUnmap, Unmaps, begin_closing, drops, is_unmap, leaves_region}
 use Rattle.serial_pager.proofs.Closed.{closes_by, closes_nothing, closes_one, closes_only, closes_region, closes_same, unmaps_by, unmaps_nothing, unmaps_region, unmaps_same}
-use Rattle.serial_pager.proofs.Flushes.{keys_in, length_keys, quota_most}
-use Rattle.serial_pager.proofs.Goes.{all_both, went_twice}
+use Rattle.serial_pager.proofs.Flushes.{keys_in, length_keys, quota_most, written_clean}
+use Rattle.serial_pager.proofs.Goes.{went_twice}
 use Rattle.serial_pager.proofs.Loops.{list_weaker}
 use Rattle.serial_pager.proofs.ModelLaws.{Laws}
-use Rattle.serial_pager.proofs.Owes.{written_clean}
 use Rattle.serial_pager.proofs.Pages.{changed_keys, page_in, removed_fewer}
 use Rattle.serial_pager.proofs.Queues.{served_fewer}
-use Rattle.serial_pager.proofs.Regions.{on_region_here, on_region_other}
-use Rattle.serial_pager.proofs.Rests.{still_rests}
+use Rattle.serial_pager.proofs.Rests.{on_region_here, on_region_other, still_rests}
 
 -- ---- a region's flags change
 
@@ -94,15 +93,12 @@ none_waits c r none closing =
     (λ p here. or_left (is_closing c p.key.region) (is_protected_why p.why && not (is_present c p.key)) (ap (is_closing c) (eqb-true p.key.region r here) ∙ closing))
     (none_stale c none)
 
+map_none : {A B : Type 0} (f : A → B) (o : Option A) → option_map f o ≡ None → is_some o ≡ false
+map_none f None e = refl
+map_none f (Some x) e = absurd cc
+
 none_held : (rs : List Resident) (r : ℕ) → option_map pick_of (find (λ (p : Resident). p.key.region == r) rs) ≡ None → list_any (λ (k : Key). k.region == r) (map (λ (p : Resident). p.key) rs) ≡ false
-none_held [] r e = refl
-none_held (x ∷ rs) r e = go (x.key.region == r) e (none_held rs r)
-  where
-    go : (b : Bool) → option_map pick_of (cond b (Some x) (find (λ (p : Resident). p.key.region == r) rs)) ≡ None
-        → (option_map pick_of (find (λ (p : Resident). p.key.region == r) rs) ≡ None → list_any (λ (k : Key). k.region == r) (map (λ (p : Resident). p.key) rs) ≡ false)
-        → (b || list_any (λ (k : Key). k.region == r) (map (λ (p : Resident). p.key) rs)) ≡ false
-    go true f ih = absurd cc
-    go false f ih = ih f
+none_held rs r e = any_map (λ (k : Key). k.region == r) (λ (p : Resident). p.key) rs ∙ (sym (some_found (λ (p : Resident). p.key.region == r) rs) ∙ map_none pick_of (find (λ (p : Resident). p.key.region == r) rs) e)
 
 -- nothing of the region is left
 pub is_quiet_now : (c : Core) (r : ℕ) → is_home c r ≡ true → oldest_of c r ≡ None → list_any (λ (p : Raise). p.key.region == r) c.queue ≡ false → is_quiet c r ≡ true
@@ -128,26 +124,15 @@ readied c d k there w = record {
         ∙ changed_keys k (λ (r : Resident). record r { protected = true }) c.pages (λ r. refl))
 
     any_key : (rs : List Resident) (k : Key) → is_some (find (λ (r : Resident). same r.key k) rs) ≡ list_any (λ (j : Key). same j k) (map (λ (r : Resident). r.key) rs)
-    any_key [] k = refl
-    any_key (r ∷ rs) k = go (same r.key k) (any_key rs k)
-      where
-        go : (b : Bool) → is_some (find (λ (x : Resident). same x.key k) rs) ≡ list_any (λ (j : Key). same j k) (map (λ (x : Resident). x.key) rs)
-            → is_some (cond b (Some r) (find (λ (x : Resident). same x.key k) rs)) ≡ (b || list_any (λ (j : Key). same j k) (map (λ (x : Resident). x.key) rs))
-        go true ih = refl
-        go false ih = ih
+    any_key rs k = some_found (λ (r : Resident). same r.key k) rs ∙ sym (any_map (λ (j : Key). same j k) (λ (r : Resident). r.key) rs)
 
     present_by_keys : (xs ys : List Resident) (k : Key) → map (λ (r : Resident). r.key) xs ≡ map (λ (r : Resident). r.key) ys → is_some (find (λ (r : Resident). same r.key k) ys) ≡ true → is_some (find (λ (r : Resident). same r.key k) xs) ≡ true
     present_by_keys xs ys k e h = any_key xs k ∙ (ap (list_any (λ (j : Key). same j k)) e ∙ (sym (any_key ys k) ∙ h))
 
--- what a try to write a page leaves of the faults, and how many entries it makes
-module _ {X : Type 0} (c d : Core) (k : Key) where
-  pub failed_queue : (r : Result X PageFault) → OnOk r (Writes k c d) → IfErr r (λ f. FailsToWrite k c d f) → d.queue ≡ c.queue
-  failed_queue (Ok x) w f = ap (λ (v : Core). v.queue) w.is
-  failed_queue (Err fault) w f = ap (λ (v : Core). v.queue) f.is
-
-  pub failed_events : (r : Result X PageFault) → OnOk r (Writes k c d) → IfErr r (λ f. FailsToWrite k c d f) → d.events ≡ c.events + 1 + 1
-  failed_events (Ok x) w f = ap (λ (v : Core). v.events) w.is
-  failed_events (Err fault) w f = ap (λ (v : Core). v.events) f.is
+-- what a try to write a page leaves of the faults
+pub failed_queue : {X : Type 0} (c d : Core) (k : Key) (r : Result X PageFault) → OnOk r (Writes k c d) → IfErr r (λ f. FailsToWrite k c d f) → d.queue ≡ c.queue
+failed_queue c d k (Ok x) w f = ap (λ (v : Core). v.queue) w.is
+failed_queue c d k (Err fault) w f = ap (λ (v : Core). v.queue) f.is
 
 pub write_leaves : (k : Key) (at : ℕ) (bytes : List ℕ) → list_all (leaves_region k.region) (entry.Written k at bytes ∷ entry.StartWrite k Unmap ∷ []) ≡ true
 write_leaves k at bytes =
@@ -196,42 +181,45 @@ leave_closes : (r : ℕ) (e : Entry) → leaves_region r e ≡ true → closes_n
 leave_closes r (entry.Closing q) e = absurd cc
 leave_closes r x e = refl
 
-leave_only : (r : ℕ) (e : Entry) → leaves_region r e ≡ true → closes_only r e ≡ true
-leave_only r (entry.Closing q) e = absurd cc
-leave_only r x e = refl
-
-leave_unmaps : (r : ℕ) (e : Entry) → leaves_region r e ≡ true → unmaps_nothing e ≡ true
-leave_unmaps r (entry.Unmapped q) e = absurd cc
-leave_unmaps r x e = refl
-
-drop_closes : (e : Entry) → drops e ≡ true → closes_nothing e ≡ true
-drop_closes (entry.Closing q) e = absurd cc
-drop_closes x e = refl
-
-drop_only : (r : ℕ) (e : Entry) → drops e ≡ true → closes_only r e ≡ true
-drop_only r (entry.Closing q) e = absurd cc
-drop_only r x e = refl
-
-drop_unmaps : (e : Entry) → drops e ≡ true → unmaps_nothing e ≡ true
-drop_unmaps (entry.Unmapped q) e = absurd cc
-drop_unmaps x e = refl
-
 pub leaving_closes : (laws : Laws) {J : Type 0} (noted : J → History Entry → Type 0) (r : ℕ) (old new : StripeSeen J) → IsAtRest old.core → WentBy 0 noted (leaves_region r) old new → ClosesSame old.core new.core
 leaving_closes laws noted r old new rest w = closes_same laws noted w.entries old new rest w.went (list_weaker (leaves_region r) closes_nothing w.entries (leave_closes r) w.pass)
 
-begins_only : (c : Core) (r : ℕ) → list_all (closes_only r) (begin_closing c r) ≡ true
-begins_only c r = go (is_closing c r)
-  where
-    go : (b : Bool) → list_all (closes_only r) (cond b [] (entry.Closing r ∷ [])) ≡ true
-    go true = refl
-    go false = and_from (r == r) true (eq-eqb r r refl) refl
+-- the entry may stand in an unmapping of the region before its end, and is no failed write
+abbrev pub is_part : (region : ℕ) → Entry → Bool
+is_part r (entry.Closing q) = q == r
+is_part r (entry.Dropped k) = true
+is_part r (entry.StartWrite k why) = is_unmap why
+is_part r (entry.Written k at bytes) = true
+is_part r (entry.Evicted k why) = is_unmap why
+is_part r e = false
 
-begins_unmaps : (c : Core) (r : ℕ) → list_all unmaps_nothing (begin_closing c r) ≡ true
-begins_unmaps c r = go (is_closing c r)
-  where
-    go : (b : Bool) → list_all unmaps_nothing (cond b [] (entry.Closing r ∷ [])) ≡ true
-    go true = refl
-    go false = refl
+leave_part : (r : ℕ) (e : Entry) → leaves_region r e ≡ true → is_part r e ≡ true
+leave_part r (entry.StartWrite k why) e = (and_parts (k.region == r) (is_unmap why) e).1
+leave_part r (entry.Written k at bytes) e = refl
+leave_part r (entry.Evicted k why) e = (and_parts (k.region == r) (is_unmap why) e).1
+leave_part r x e = absurd cc
+
+drop_part : (r : ℕ) (e : Entry) → drops e ≡ true → is_part r e ≡ true
+drop_part r (entry.Dropped k) e = refl
+drop_part r x e = absurd cc
+
+begins_part : (r : ℕ) (closes : Bool) → list_all (is_part r) (cond closes [] (entry.Closing r ∷ [])) ≡ true
+begins_part r true = refl
+begins_part r false = and_from (r == r) true (eq-eqb r r refl) refl
+
+pub clears_part : (r : ℕ) (c : Core) (es : List Entry) → Clears r c es → list_all (is_part r) es ≡ true
+clears_part r c es w = ap (list_all (is_part r)) w.is
+    ∙ (list_all-append (is_part r) w.left (w.dropped ++ begin_closing c r)
+    ∙ and_from (list_all (is_part r) w.left) (list_all (is_part r) (w.dropped ++ begin_closing c r)) (list_weaker (leaves_region r) (is_part r) w.left (leave_part r) w.leave)
+    (list_all-append (is_part r) w.dropped (begin_closing c r) ∙ and_from (list_all (is_part r) w.dropped) (list_all (is_part r) (begin_closing c r)) (list_weaker drops (is_part r) w.dropped (drop_part r) w.drop) (begins_part r (is_closing c r))))
+
+part_only : (r : ℕ) (e : Entry) → is_part r e ≡ true → closes_only r e ≡ true
+part_only r (entry.Closing q) e = e
+part_only r x e = refl
+
+part_maps : (r : ℕ) (e : Entry) → is_part r e ≡ true → unmaps_nothing e ≡ true
+part_maps r (entry.Unmapped q) e = absurd cc
+part_maps r x e = refl
 
 -- the region closes behind them
 begun : (c : Core) (r : ℕ) → (list_any (closes_region r) (begin_closing c r) || is_closing c r) ≡ true
@@ -251,9 +239,6 @@ begun_more r b (x ∷ xs) es e = go (closes_region r x) (begun_more r b xs es e)
 
 module _ (laws : Laws) {J : Type 0} (noted : J → History Entry → Type 0) (r : ℕ) (o a b : StripeSeen J) (rest : IsAtRest o.core) (lt : r < regions o.core.setup)
     (one : Went 0 noted (begin_closing o.core r) o a) (two : WentBy 0 noted drops a b) where
-  pub closing_begun : is_closing a.core r ≡ true
-  closing_begun = closes_by laws noted (begin_closing o.core r) o a rest one r lt ∙ begun o.core r
-
   abbrev so_far : List Entry
   so_far = two.entries ++ begin_closing o.core r
 
@@ -276,16 +261,11 @@ module _ (laws : Laws) {J : Type 0} (noted : J → History Entry → Type 0) (r 
     pub closing_far : is_closing d.core r ≡ true
     closing_far = closes_by laws noted all_far o d rest went_far r lt ∙ begun_more r (is_closing o.core r) left so_far (begun_more r (is_closing o.core r) two.entries (begin_closing o.core r) (begun o.core r))
 
-    only_far : list_all (closes_only r) all_far ≡ true
-    only_far = all_both noted (closes_only r) left so_far (list_weaker (leaves_region r) (closes_only r) left (leave_only r) pass)
-        (all_both noted (closes_only r) two.entries (begin_closing o.core r) (list_weaker drops (closes_only r) two.entries (drop_only r) two.pass) (begins_only o.core r))
-
-    unmaps_far : list_all unmaps_nothing all_far ≡ true
-    unmaps_far = all_both noted unmaps_nothing left so_far (list_weaker (leaves_region r) unmaps_nothing left (leave_unmaps r) pass)
-        (all_both noted unmaps_nothing two.entries (begin_closing o.core r) (list_weaker drops unmaps_nothing two.entries drop_unmaps two.pass) (begins_unmaps o.core r))
+    part_far : list_all (is_part r) all_far ≡ true
+    part_far = clears_part r o.core all_far clears
 
     pub mapped_far : is_unmapped o.core r ≡ false → is_unmapped d.core r ≡ false
-    mapped_far first = unmaps_same laws noted all_far o d rest went_far r lt unmaps_far ∙ first
+    mapped_far first = unmaps_same laws noted all_far o d rest went_far r lt (list_weaker (is_part r) unmaps_nothing all_far (part_maps r) part_far) ∙ first
 
     -- nothing of the region is left, so it may be unmapped
     pub can_unmap : is_unmapped o.core r ≡ false → IsAtRest d.core → ((k : Key) → next b.core ≡ serve.Drop k → ⊥) → d.core.queue ≡ b.core.queue → oldest_of d.core r ≡ None → CanUnmap d.core r
@@ -315,7 +295,7 @@ module _ (laws : Laws) {J : Type 0} (noted : J → History Entry → Type 0) (r 
       }
 
       pub unmapped_closes : ClosesOne r o.core e.core
-      unmapped_closes = closes_one laws noted (entry.Unmapped r ∷ all_far) o e rest went_end r lt only_far
+      unmapped_closes = closes_one laws noted (entry.Unmapped r ∷ all_far) o e rest went_end r lt (list_weaker (is_part r) (closes_only r) all_far (part_only r) part_far)
 
   -- a write failed
   module _ (d : StripeSeen J) (f : PageFault) (w : FailsToLeave 0 noted r b d f) where
@@ -325,13 +305,11 @@ module _ (laws : Laws) {J : Type 0} (noted : J → History Entry → Type 0) (r 
     went_fail : Went 0 noted fail_far o d
     went_fail = went_twice noted so_far (entry.WriteFailed f.key f.faults ∷ entry.StartWrite f.key Unmap ∷ w.before) o b d went_so_far w.went
 
-    only_fail : list_all (closes_only r) fail_far ≡ true
-    only_fail = all_both noted (closes_only r) w.before so_far (list_weaker (leaves_region r) (closes_only r) w.before (leave_only r) w.pass)
-        (all_both noted (closes_only r) two.entries (begin_closing o.core r) (list_weaker drops (closes_only r) two.entries (drop_only r) two.pass) (begins_only o.core r))
+    clears_fail : Clears r o.core (w.before ++ so_far)
+    clears_fail = record { left = w.before; dropped = two.entries; is = refl; leave = w.pass; drop = two.pass }
 
-    unmaps_fail : list_all unmaps_nothing fail_far ≡ true
-    unmaps_fail = all_both noted unmaps_nothing w.before so_far (list_weaker (leaves_region r) unmaps_nothing w.before (leave_unmaps r) w.pass)
-        (all_both noted unmaps_nothing two.entries (begin_closing o.core r) (list_weaker drops unmaps_nothing two.entries drop_unmaps two.pass) (begins_unmaps o.core r))
+    part_fail : list_all (is_part r) (w.before ++ so_far) ≡ true
+    part_fail = clears_part r o.core (w.before ++ so_far) clears_fail
 
     page_fail : has_page o.core.setup f.key ≡ true
     page_fail = subst (λ s. has_page s f.key ≡ true) went_fail.setup (went_fail.stands rest.history rest.stands).legal.1
@@ -345,11 +323,11 @@ module _ (laws : Laws) {J : Type 0} (noted : J → History Entry → Type 0) (r 
         region = w.region;
         before = w.before ++ so_far;
         is = refl;
-        clears = record { left = w.before; dropped = two.entries; is = refl; leave = w.pass; drop = two.pass };
+        clears = clears_fail;
         closing = closes_by laws noted fail_far o d rest went_fail r lt ∙ begun_more r (is_closing o.core r) w.before so_far (begun_more r (is_closing o.core r) two.entries (begin_closing o.core r) (begun o.core r));
-        mapped = unmaps_same laws noted fail_far o d rest went_fail r lt unmaps_fail ∙ first;
+        mapped = unmaps_same laws noted fail_far o d rest went_fail r lt (list_weaker (is_part r) unmaps_nothing (w.before ++ so_far) (part_maps r) part_fail) ∙ first;
       };
     }
 
     pub failed_closes_one : ClosesOne r o.core d.core
-    failed_closes_one = closes_one laws noted fail_far o d rest went_fail r lt only_fail
+    failed_closes_one = closes_one laws noted fail_far o d rest went_fail r lt (list_weaker (is_part r) (closes_only r) (w.before ++ so_far) (part_only r) part_fail)

@@ -1,13 +1,13 @@
 -- Which regions close, by the entries.
 use Rattle.std.proofs.Common.{Bool, List, [], ap, arith, false, inl, inr, refl, subst, sym, true, ℕ, ◌++◌, ◌∙◌, ◌∷◌, ◌≡◌, ◌<◌, ◌==◌, ◌≤◌, ◌||◌}
-use Rattle.std.proofs.lemmas.Bool.{and_parts, cases_lt, eqb-true, false_from_ne_true}
+use Rattle.std.proofs.lemmas.Bool.{and_parts, cases_lt, eqb-true, false_from_ne_true, or_right}
 use Rattle.std.proofs.lemmas.Option.{slice_get_past}
 use Rattle.std.specs.List.{list_all, list_any}
 use Rattle.histories.specs.Histories.{History, by}
 use Rattle.page_model.specs.declared.entry.Entry.{Entry}
 use Rattle.page_model.specs.declared.entry.Entry.TheVariants as entry
 use Rattle.page_model.specs.Closings as closings
-use Rattle.page_model.specs.Core.{Core, closes, is_closing, is_unmapped}
+use Rattle.page_model.specs.Core.{Core, closes, is_closing, is_unmapped, unmaps}
 use Rattle.page_model.specs.Setups.{Setup, regions}
 use Rattle.page_model.specs.Stands.{StandsFor}
 use Rattle.serial_pager.specs.Goings.{Went}
@@ -25,10 +25,6 @@ closes_region r e = false
 abbrev pub closes_nothing : Entry → Bool
 closes_nothing (entry.Closing q) = false
 closes_nothing e = true
-
-or_true : (b : Bool) → (b || true) ≡ true
-or_true true = refl
-or_true false = refl
 
 or_assoc : (a b c : Bool) → (a || (b || c)) ≡ ((a || b) || c)
 or_assoc true b c = refl
@@ -66,6 +62,43 @@ module _ (laws : Laws) {J : Type 0} (noted : J → History Entry → Type 0) (es
         ∙ sym (past_open old.core rest.history r rest.stands past)
   ]
 
+-- ---- unmapped regions
+
+-- the entry unmaps region r
+abbrev pub unmaps_region : ℕ → Entry → Bool
+unmaps_region r (entry.Unmapped q) = q == r
+unmaps_region r e = false
+
+-- the entry unmaps no region
+abbrev pub unmaps_nothing : Entry → Bool
+unmaps_nothing (entry.Unmapped q) = false
+unmaps_nothing e = true
+
+unmapped_by : (es : List Entry) (h : History Entry) (r : ℕ) → closings.is_unmapped (by 0 es ++ h) r ≡ (list_any (unmaps_region r) es || closings.is_unmapped h r)
+unmapped_by [] h r = refl
+unmapped_by (entry.Unmapped q ∷ es) h r = ap (λ b. q == r || b) (unmapped_by es h r) ∙ or_assoc (q == r) (list_any (unmaps_region r) es) (closings.is_unmapped h r)
+unmapped_by (x ∷ es) h r = unmapped_by es h r
+
+none_unmaps : (es : List Entry) (r : ℕ) → list_all unmaps_nothing es ≡ true → list_any (unmaps_region r) es ≡ false
+none_unmaps [] r e = refl
+none_unmaps (entry.Unmapped q ∷ es) r e = absurd cc
+none_unmaps (x ∷ es) r e = none_unmaps es r e
+
+-- a region that isn't there isn't unmapped
+past_mapped : (c : Core) (h : History Entry) (r : ℕ) → StandsFor h c → regions c.setup ≤ r → is_unmapped c r ≡ false
+past_mapped c h r st past = ap unmaps (slice_get_past c.regions r (omega (arith, st.count, past)))
+
+module _ (laws : Laws) {J : Type 0} (noted : J → History Entry → Type 0) (es : List Entry) (old new : StripeSeen J) (rest : IsAtRest old.core) (w : Went 0 noted es old new) (r : ℕ) (lt : r < regions old.core.setup) where
+  pub unmaps_by : is_unmapped new.core r ≡ (list_any (unmaps_region r) es || is_unmapped old.core r)
+  unmaps_by =
+      let h = rest.history in
+      let before = (laws.agree.regions h old.core r rest.stands lt).unmapped in
+      let after = (laws.agree.regions (by 0 es ++ h) new.core r (w.stands h rest.stands) (subst (λ (s : Setup). r < regions s) (sym w.setup) lt)).unmapped in
+      after ∙ (unmapped_by es h r ∙ ap (λ b. list_any (unmaps_region r) es || b) (sym before))
+
+  pub unmaps_same : list_all unmaps_nothing es ≡ true → is_unmapped new.core r ≡ is_unmapped old.core r
+  unmaps_same none = unmaps_by ∙ ap (λ b. b || is_unmapped old.core r) (none_unmaps es r none)
+
 -- ---- with one region that may close
 
 -- the entry begins to close no other region than this
@@ -90,38 +123,9 @@ module _ (laws : Laws) {J : Type 0} (noted : J → History Entry → Type 0) (es
           past_open new.core (by 0 es ++ rest.history) q (w.stands rest.history rest.stands) (subst (λ (s : Setup). regions s ≤ q) (sym w.setup) past)
           ∙ sym (past_open old.core rest.history q rest.stands past)
     ];
-    stays = λ closing. closes_by laws noted es old new rest w r lt ∙ (ap (λ b. list_any (closes_region r) es || b) closing ∙ or_true (list_any (closes_region r) es));
+    stays = λ closing. closes_by laws noted es old new rest w r lt ∙ (ap (λ b. list_any (closes_region r) es || b) closing ∙ or_right (list_any (closes_region r) es) true refl);
+    gone = λ q gone. elim (cases_lt q (regions old.core.setup)) [
+      | inl below ↦ unmaps_by laws noted es old new rest w q below ∙ (ap (λ b. list_any (unmaps_region q) es || b) gone ∙ or_right (list_any (unmaps_region q) es) true refl)
+      | inr past ↦ absurd (let mapped = past_mapped old.core rest.history q rest.stands past in let no : true ≡ false = sym gone ∙ mapped in cc)
+    ];
   }
-
--- ---- unmapped regions
-
--- the entry unmaps region r
-abbrev pub unmaps_region : ℕ → Entry → Bool
-unmaps_region r (entry.Unmapped q) = q == r
-unmaps_region r e = false
-
--- the entry unmaps no region
-abbrev pub unmaps_nothing : Entry → Bool
-unmaps_nothing (entry.Unmapped q) = false
-unmaps_nothing e = true
-
-unmapped_by : (es : List Entry) (h : History Entry) (r : ℕ) → closings.is_unmapped (by 0 es ++ h) r ≡ (list_any (unmaps_region r) es || closings.is_unmapped h r)
-unmapped_by [] h r = refl
-unmapped_by (entry.Unmapped q ∷ es) h r = ap (λ b. q == r || b) (unmapped_by es h r) ∙ or_assoc (q == r) (list_any (unmaps_region r) es) (closings.is_unmapped h r)
-unmapped_by (x ∷ es) h r = unmapped_by es h r
-
-none_unmaps : (es : List Entry) (r : ℕ) → list_all unmaps_nothing es ≡ true → list_any (unmaps_region r) es ≡ false
-none_unmaps [] r e = refl
-none_unmaps (entry.Unmapped q ∷ es) r e = absurd cc
-none_unmaps (x ∷ es) r e = none_unmaps es r e
-
-module _ (laws : Laws) {J : Type 0} (noted : J → History Entry → Type 0) (es : List Entry) (old new : StripeSeen J) (rest : IsAtRest old.core) (w : Went 0 noted es old new) (r : ℕ) (lt : r < regions old.core.setup) where
-  pub unmaps_by : is_unmapped new.core r ≡ (list_any (unmaps_region r) es || is_unmapped old.core r)
-  unmaps_by =
-      let h = rest.history in
-      let before = (laws.agree.regions h old.core r rest.stands lt).unmapped in
-      let after = (laws.agree.regions (by 0 es ++ h) new.core r (w.stands h rest.stands) (subst (λ (s : Setup). r < regions s) (sym w.setup) lt)).unmapped in
-      after ∙ (unmapped_by es h r ∙ ap (λ b. list_any (unmaps_region r) es || b) (sym before))
-
-  pub unmaps_same : list_all unmaps_nothing es ≡ true → is_unmapped new.core r ≡ is_unmapped old.core r
-  unmaps_same none = unmaps_by ∙ ap (λ b. b || is_unmapped old.core r) (none_unmaps es r none)

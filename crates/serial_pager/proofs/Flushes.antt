@@ -1,40 +1,77 @@
--- Writing the dirty pages, one after another in order of key.
-use Rattle.std.proofs.Common.{Bool, Err, IfErr, List, None, Ok, OnOk, Option, Result, Some, [], ap, arith, cond, false, filter, find, inl, inr, is_err, length, map, min, nat_lt, not, refl, subst, sym, true, suc, ℕ, ◌*◌, ◌+◌, ◌++◌, ◌/◌, ◌%◌, ◌&&◌, ◌∙◌, ◌∷◌, ◌≡◌, ◌==◌, ◌≤◌, ◌⊎◌, ◌||◌}
+-- Writing the dirty pages, one after another in order of key, and which pages are dirty behind a write.
+use Rattle.std.proofs.Common.{Bool, None, Option, Some, ap, false, inl, inr, not, refl, sym, true, ◌&&◌, ◌∙◌, ◌≡◌, Err, IfErr, List, Ok, OnOk, Result, [], arith, cond, filter, find, is_err, length, map, nat_lt, subst, suc, ℕ, ◌*◌, ◌+◌, ◌++◌, ◌/◌, ◌%◌, ◌∷◌, ◌==◌, ◌≤◌, ◌||◌}
+use Rattle.std.specs.Option.{option_map}
+use Rattle.page_base.specs.declared.keys.Key.{Key}
+use Rattle.page_model.specs.Core.{Core, Resident, dirties, is_dirty, next_dirty}
+use Rattle.page_model.specs.Steps.{on_page}
+use Rattle.serial_pager.specs.declared.fault.PageFault.{PageFault}
+use Rattle.serial_pager.specs.InsideServices.{FailsToWrite, Writes, Tries}
+use Rattle.serial_pager.proofs.Turns.{cases_key}
+use Rattle.serial_pager.proofs.Pages.{page_in, changed_here, changed_other, changed_keys, same-true, same_self}
 use Rattle.std.proofs.Math.Bool.{or_comm}
 use Rattle.std.proofs.Math.Nat.{div-le_self}
-use Rattle.std.proofs.lemmas.Bool.{and_from, and_parts, cases_Bool, cases_lt, eq-eqb, false_from_ne_true, or_cases, or_left, or_parts, or_right}
+use Rattle.std.proofs.lemmas.Bool.{and_from, and_parts, cases_Bool, eq-eqb, false_from_ne_true, or_cases, or_left, or_parts, or_right}
 use Rattle.std.proofs.lemmas.Bool.Decides.{nat_tests}
+use Rattle.std.proofs.lemmas.List.Filters.{length-filter_both}
 use Rattle.std.proofs.lemmas.List.Folds.{list_any-append}
 use Rattle.std.specs.List.{AllByRecursion, list_any}
 use Rattle.histories.specs.Histories.{History}
 use Rattle.page_base.specs.KeyOrder.{is_below, is_past}
-use Rattle.page_base.specs.Lanes.{Rose}
 use Rattle.page_base.specs.Pages.{quota_of, same}
-use Rattle.page_base.specs.declared.keys.Key.{Key}
 use Rattle.page_model.specs.declared.entry.Cause.TheVariants.{Flush}
 use Rattle.page_model.specs.declared.entry.Entry.{Entry}
 use Rattle.page_model.specs.declared.entry.Entry.TheVariants as entry
-use Rattle.page_model.specs.Core.{Core, Resident, dirties, is_dirty, is_home, next_dirty}
 use Rattle.page_model.specs.Residents.{is_in}
 use Rattle.page_model.specs.Readers.{IsNextToFlush}
-use Rattle.serial_pager.specs.declared.fault.PageFault.{PageFault}
-use Rattle.serial_pager.specs.Holdings.{CountsGrow, HoldsSame, IsClean, IsStored, count_at}
-use Rattle.serial_pager.specs.InsideGoings.{FailsToWriteOut, TriesToWrite, WritesOut}
-use Rattle.serial_pager.specs.InsideServices.{FailsToWrite, Tries, Writes}
+use Rattle.serial_pager.specs.InsideGoings.{FailsToWriteOut, TriesToWrite, WritesOut, WroteBack}
 use Rattle.serial_pager.specs.Rests.{ClosesSame, IsAtRest}
 use Rattle.serial_pager.specs.Seen.{StripeSeen}
 use Rattle.serial_pager.specs.Goings.{Did}
-use Rattle.serial_pager.specs.Writings.{Falls, RoseAt, WritesAll, WritesUpTo, WroteBack, WroteEach, flushes, is_failed_write, is_failed_write_of, tries}
+use Rattle.serial_pager.specs.Writings.{Falls, TriesDirty, WritesAll, WritesUpTo, flushes, is_failed_write, is_failed_write_of, tries}
 use Rattle.page_model.specs.Setups.{has_page}
 use Rattle.serial_pager.proofs.Closed.{closes_nothing, closes_same}
 use Rattle.serial_pager.proofs.Goes.{all_both, went_nowhere, went_twice}
-use Rattle.serial_pager.proofs.Holds.{stores_nothing, told_held}
-use Rattle.serial_pager.proofs.Keys.{same-true, same_self}
-use Rattle.serial_pager.proofs.Loops.{counts_twice, holds_same, list_weaker, rose_earlier}
+use Rattle.serial_pager.proofs.Loops.{list_weaker}
 use Rattle.serial_pager.proofs.ModelLaws.{Laws}
-use Rattle.serial_pager.proofs.Owes.{NoMoreOwed, no_more_twice, unwritten_dirty, unwritten_owes, written_clean, written_dirty, written_other, written_owes}
-use Rattle.serial_pager.proofs.Pages.{changed_keys}
-use Rattle.serial_pager.proofs.Returns.{grows_unwritten, grows_written, names_unwritten}
+
+abbrev begun : Resident → Resident
+begun r = record r { protected = true }
+
+abbrev ended : Resident → Resident
+ended r = record r { dirty = r.dirty && not r.protected }
+
+and_false : (b : Bool) → (b && false) ≡ false
+and_false true = refl
+and_false false = refl
+
+begun_dirty : (o : Option Resident) → dirties (option_map begun o) ≡ dirties o
+begun_dirty None = refl
+begun_dirty (Some r) = refl
+
+ended_clean : (o : Option Resident) → dirties (option_map ended (option_map begun o)) ≡ false
+ended_clean None = refl
+ended_clean (Some r) = and_false r.dirty
+
+module _ (c d : Core) (k : Key) where
+  pub written_clean : Writes k c d → is_dirty d k ≡ false
+  written_clean w =
+      ap (λ (x : Core). is_dirty x k) w.is
+      ∙ (ap dirties (changed_here k ended (on_page k begun c.pages) (λ r. refl)) ∙ (ap (λ o. dirties (option_map ended o)) (changed_here k begun c.pages (λ r. refl)) ∙ ended_clean (page_in c.pages k)))
+
+  pub written_other : Writes k c d → (j : Key) → (k ≡ j → ⊥) → is_dirty d j ≡ is_dirty c j
+  written_other w j ne = ap (λ (x : Core). is_dirty x j) w.is ∙ ap dirties (changed_other k ended (on_page k begun c.pages) j (λ r. refl) ne ∙ changed_other k begun c.pages j (λ r. refl) ne)
+
+  pub written_dirty : Writes k c d → (j : Key) → is_dirty d j ≡ true → is_dirty c j ≡ true
+  written_dirty w j e = elim (cases_key k j) [
+    | inl here ↦ absurd (let no : true ≡ false = sym e ∙ (ap (is_dirty d) (sym here) ∙ written_clean w) in cc)
+    | inr ne ↦ sym (written_other w j ne) ∙ e
+  ]
+
+  pub unwritten_dirty : (f : PageFault) → FailsToWrite k c d f → (j : Key) → is_dirty d j ≡ is_dirty c j
+  unwritten_dirty f w j = ap (λ (x : Core). is_dirty x j) w.is ∙ elim (cases_key k j) [
+    | inl here ↦ ap (λ x. dirties (page_in (on_page x begun c.pages) j)) here ∙ (ap dirties (changed_here j begun c.pages (λ r. refl)) ∙ begun_dirty (page_in c.pages j))
+    | inr ne ↦ ap dirties (changed_other k begun c.pages j (λ r. refl) ne)
+  ]
 
 -- ---- one page
 
@@ -59,22 +96,6 @@ module _ (c d : Core) (k : Key) where
   pub page_other : (now : Bool) → Tries k now c d → (j : Key) → (k ≡ j → ⊥) → is_dirty d j ≡ is_dirty c j
   page_other true t j ne = unwritten_dirty c d k t.0 t.1 j
   page_other false t j ne = written_other c d k t j ne
-
-  pub page_owes : (now : Bool) → Tries k now c d → NoMoreOwed c d
-  page_owes true t = unwritten_owes c d k t.0 t.1
-  page_owes false t = written_owes c d k t
-
-  pub page_failed : (laws : Laws) → IsAtRest c → is_home c k.region ≡ true → Tries k true c d → RoseAt c d k.region
-  page_failed laws rest home t =
-      let fault = t.0 in
-      let f = t.1 in
-      let own : FailsToWrite fault.key c d fault = subst (λ j. FailsToWrite j c d fault) (sym f.key) f in
-      let names = names_unwritten laws c d rest fault (subst (λ (j : Key). is_home c j.region ≡ true) (sym f.key) home) own in
-      subst (λ (j : Key). RoseAt c d j.region) f.key (subst (λ (n : ℕ). Rose (count_at c fault.key.region) n) names.count names.rose)
-
-  pub page_grows : (laws : Laws) → IsAtRest c → is_home c k.region ≡ true → (now : Bool) → Tries k now c d → CountsGrow c d
-  page_grows laws rest home true t = grows_unwritten laws c d rest k home t.0 t.1
-  page_grows laws rest home false t = grows_written laws c d rest k home t
 
   pub page_keys : (now : Bool) → Tries k now c d → keys_in d ≡ keys_in c
   page_keys true t = ap keys_in t.1.is ∙ changed_keys k (λ (r : Resident). record r { protected = true }) c.pages (λ r. refl)
@@ -140,9 +161,6 @@ below_apart j k e = grind (arith, nat_tests)
 above_other : (j k : Key) → same k j ≡ false → is_below j k ≡ false → is_below k j ≡ true
 above_other j k e f = grind (arith, nat_tests)
 
-apart_from : (j k : Key) → same k j ≡ false → k ≡ j → ⊥
-apart_from j k e is = let here : same k j ≡ true = ap (λ x. same x j) is ∙ same_self j in let no : true ≡ false = sym here ∙ e in cc
-
 all_from : (P : Key → Type 0) (all ks : List Key) → ((j : Key) → is_in j ks ≡ true → is_in j all ≡ true) → ((j : Key) → is_in j all ≡ true → P j) → AllByRecursion P ks
 all_from P all [] sub p = tt
 all_from P all (k ∷ ks) sub p =
@@ -180,14 +198,6 @@ one_less P Q (x ∷ xs) k weak there p q = elim (or_cases (same x k) (is_in k xs
     go false true w ih = absurd (let no = w refl in cc)
     go false false w ih = ih
 
-at_most : (P : Key → Bool) (ks : List Key) → length (filter P ks) ≤ length ks
-at_most P [] = omega arith
-at_most P (x ∷ xs) = go (P x) (at_most P xs)
-  where
-    go : (p : Bool) → length (filter P xs) ≤ length xs → length (cond p (x ∷ filter P xs) (filter P xs)) ≤ length (x ∷ xs)
-    go true ih = omega (arith, ih)
-    go false ih = omega (arith, ih)
-
 pub length_keys : (rs : List Resident) → length (map (λ (r : Resident). r.key) rs) ≡ length rs
 length_keys [] = refl
 length_keys (r ∷ rs) = ap suc (length_keys rs)
@@ -210,25 +220,11 @@ left c after = length (filter (λ (j : Key). is_dirty c j && is_past after j) (k
 pub record Tried {J : Type 0} (has_noted : J → History Entry → Type 0) (after : Option Key) (failed : Bool) (old new : StripeSeen J) : Type 0 where
   pub rest : IsAtRest new.core
   pub back : WroteBack 0 has_noted failed old new
-  pub owes : NoMoreOwed old.core new.core
-  pub counts : CountsGrow old.core new.core
-  pub rose : failed ≡ true → (r : ℕ) × RoseAt old.core new.core r
-  pub behind : (j : Key) → is_past after j ≡ false → is_dirty new.core j ≡ true → RoseAt old.core new.core j.region
   pub clean : (j : Key) → is_past after j ≡ false → list_any (is_failed_write_of j.region) back.entries ≡ false → is_dirty new.core j ≡ false
   pub ahead : (j : Key) → is_past after j ≡ true → is_dirty new.core j ≡ is_dirty old.core j
   pub rising : Falls (tries back.entries)
   pub each : (j : Key) → is_in j (tries back.entries) ≡ (is_dirty old.core j && not (is_past after j))
   pub few : new.core.events + 2 * left new.core after ≤ old.core.events + 2 * left old.core None
-
-rose_before : (a b c : Core) (r : ℕ) → CountsGrow a b → RoseAt b c r → RoseAt a c r
-rose_before a b c r one two = rose_earlier (count_at a r) (count_at b r) (count_at c r) (one r) two
-
-rose_after : (a b c : Core) (r : ℕ) → RoseAt a b r → CountsGrow b c → RoseAt a c r
-rose_after a b c r one two = let low = two r in omega (arith, low, one)
-
-pub or_true : (b : Bool) → (b || true) ≡ true
-or_true true = refl
-or_true false = refl
 
 pub or_false : (b : Bool) → (b || false) ≡ b
 or_false true = refl
@@ -247,10 +243,6 @@ module _ {J : Type 0} (noted : J → History Entry → Type 0) where
   tried_none a rest = record {
     rest = rest;
     back = back_none noted a;
-    owes = λ j e. e;
-    counts = λ r. omega arith;
-    rose = λ e. absurd cc;
-    behind = λ j e f. absurd cc;
     clean = λ j e none. absurd cc;
     ahead = λ j e. refl;
     rising = tt;
@@ -260,12 +252,6 @@ module _ {J : Type 0} (noted : J → History Entry → Type 0) where
 
 module _ {J : Type 0} (noted : J → History Entry → Type 0) (laws : Laws) (after : Option Key) (failed now : Bool) (k : Key) (o a b : StripeSeen J)
     (t : Tried noted after failed o a) (next : IsNextToFlush a.core after k) (rest : IsAtRest b.core) (does : Tries k now a.core b.core) (went : TriesToWrite 0 noted k now a b) where
-  here : is_home a.core k.region ≡ true
-  here = t.rest.home k.region (laws.pages.region a.core.setup k next.page)
-
-  grows : CountsGrow a.core b.core
-  grows = page_grows a.core b.core k laws t.rest here now does
-
   abbrev back : WroteBack 0 noted (failed || now) o b
   back = back_twice noted failed now o a b t.back (page_back noted k a b now went)
 
@@ -314,19 +300,6 @@ module _ {J : Type 0} (noted : J → History Entry → Type 0) (laws : Laws) (af
     | inr ne ↦ ap (λ x. x || is_in j (tries t.back.entries)) ne ∙ (t.each j ∙ each_other j ne)
   ]
 
-  behind : (j : Key) → is_below k j ≡ false → is_dirty b.core j ≡ true → RoseAt o.core b.core j.region
-  behind j low d = elim (cases_Bool (same k j)) [
-    | inl t' ↦ itself (same-true k j t') now does
-    | inr ne ↦ elim (cases_Bool (is_past after j)) [
-      | inl past ↦ absurd (let gone = passed j ne low past in let was = page_dirty a.core b.core k now does j d in let no : true ≡ false = sym was ∙ gone in cc)
-      | inr before ↦ rose_after o.core a.core b.core j.region (t.behind j before (page_dirty a.core b.core k now does j d)) grows
-    ]
-  ]
-    where
-      itself : k ≡ j → (x : Bool) → Tries k x a.core b.core → RoseAt o.core b.core j.region
-      itself is true f = subst (λ (i : Key). RoseAt o.core b.core i.region) is (rose_before o.core a.core b.core k.region t.counts (page_failed a.core b.core k laws t.rest here f))
-      itself is false w = absurd (let gone : is_dirty b.core j ≡ false = ap (is_dirty b.core) (sym is) ∙ written_clean a.core b.core k w in let no : true ≡ false = sym d ∙ gone in cc)
-
   clean : (j : Key) → is_below k j ≡ false → list_any (is_failed_write_of j.region) back.entries ≡ false → is_dirty b.core j ≡ false
   clean j low none = false_from_ne_true (is_dirty b.core j) (λ d.
       let its : List Entry = (page_back noted k a b now went).entries in
@@ -373,13 +346,6 @@ module _ {J : Type 0} (noted : J → History Entry → Type 0) (laws : Laws) (af
   tried_more = record {
     rest = rest;
     back = back;
-    owes = no_more_twice o.core a.core b.core t.owes (page_owes a.core b.core k now does);
-    counts = counts_twice o.core a.core b.core t.counts grows;
-    rose = λ e. elim (or_cases failed now e) [
-      | inl before ↦ let x = t.rose before in (x.0, rose_after o.core a.core b.core x.0 x.1 grows)
-      | inr this ↦ (k.region, rose_before o.core a.core b.core k.region t.counts (page_failed a.core b.core k laws t.rest here (subst (λ x. Tries k x a.core b.core) this does)))
-    ];
-    behind = behind;
     clean = clean;
     ahead = ahead;
     rising = subst Falls (sym keyed) (all_from (λ j. is_below j k ≡ true) (tries t.back.entries) (tries t.back.entries) (λ j e. e) tried_before, t.rising);
@@ -389,45 +355,12 @@ module _ {J : Type 0} (noted : J → History Entry → Type 0) (laws : Laws) (af
 
 -- ---- the end
 
-pub stored : (laws : Laws) (c : Core) (r : ℕ) → IsAtRest c → IsClean c r → IsStored c r
-stored laws c r rest clean = record {
-  clean = clean;
-  told = λ k at page is. told_held laws rest.history c k rest.stands (rest.home k.region (laws.pages.region c.setup k page)) page is (clean k at page);
-}
-
-flush_stores : (e : Entry) → flushes e ≡ true → stores_nothing e ≡ true
-flush_stores (entry.Save j place bytes) e = absurd cc
-flush_stores x e = refl
-
-pub flushes_hold : (laws : Laws) {J : Type 0} (noted : J → History Entry → Type 0) (failed : Bool) (old new : StripeSeen J) → IsAtRest old.core → IsAtRest new.core → WroteBack 0 noted failed old new → HoldsSame old.core new.core
-flushes_hold laws noted failed old new a b w = holds_same laws noted w.entries old new a b w.went (list_weaker flushes stores_nothing w.entries flush_stores w.pass)
-
 module _ {J : Type 0} (noted : J → History Entry → Type 0) (laws : Laws) (after : Option Key) (failed : Bool) (o a : StripeSeen J) (t : Tried noted after failed o a) (end : next_dirty a.core after ≡ None) where
   clean_past : (j : Key) → is_past after j ≡ true → is_dirty a.core j ≡ false
   clean_past j past = laws.flush.none a.core after j end past
 
-  pub all_stored : failed ≡ false → (r : ℕ) → IsStored a.core r
-  all_stored e r = stored laws a.core r t.rest (λ j at page. elim (cases_Bool (is_past after j)) [
-    | inl past ↦ clean_past j past
-    | inr before ↦ t.clean j before (none_failed_of j.region t.back.entries (t.back.fails ∙ e))
-  ])
-
-  -- a region whose lane counts no more faults than before is all written
-  pub each_tried : (r : ℕ) → RoseAt o.core a.core r ⊎ IsStored a.core r
-  each_tried r = elim (cases_lt (count_at a.core r) (min (count_at o.core r + 1) 18446744073709551615)) [
-    | inl low ↦ inr (stored laws a.core r t.rest (λ j at page. false_from_ne_true (is_dirty a.core j) (λ d. elim (cases_Bool (is_past after j)) [
-      | inl past ↦ let gone = clean_past j past in let no : true ≡ false = sym d ∙ gone in cc
-      | inr before ↦ let rose : RoseAt o.core a.core r = subst (λ x. RoseAt o.core a.core x) at (t.behind j before d) in omega (arith, rose, low)
-    ])))
-    | inr high ↦ inl high
-  ]
-
-  pub each_once : WroteEach 0 noted failed o a
-  each_once = record {
-    back = t.back;
-    once = record { rising = t.rising; each = λ j. t.each j ∙ whole j };
-    clean = λ j none. elim (cases_Bool (is_past after j)) [ inl past ↦ clean_past j past | inr before ↦ t.clean j before none ];
-  }
+  pub each_once : TriesDirty o.core t.back.entries
+  each_once = record { rising = t.rising; each = λ j. t.each j ∙ whole j }
     where
       whole : (j : Key) → (is_dirty o.core j && not (is_past after j)) ≡ is_dirty o.core j
       whole j = elim (cases_Bool (is_past after j)) [
@@ -449,14 +382,13 @@ flushes_close laws noted failed old new a w = closes_same laws noted w.entries o
 
 -- it ended, since nothing past the last page is dirty
 pub flushed : {J : Type 0} (noted : J → History Entry → Type 0) (laws : Laws) (after : Option Key) (o a : StripeSeen J) → Tried noted after false o a → next_dirty a.core after ≡ None → Did 0 noted WritesAll o a
-unfolding each_once
 flushed noted laws after o a t end = record {
   entries = t.back.entries;
   went = t.back.went;
   how = record {
     pass = t.back.pass;
     none = t.back.fails;
-    once = (each_once noted laws after false o a t end).once;
+    once = each_once noted laws after false o a t end;
     clean = λ j. elim (cases_Bool (is_past after j)) [
       | inl past ↦ clean_past noted laws after false o a t end j past
       | inr before ↦ t.clean j before (none_failed_of j.region t.back.entries t.back.fails)
@@ -503,9 +435,6 @@ module _ {J : Type 0} (noted : J → History Entry → Type 0) (laws : Laws) (af
     };
   }
 
-  pub flush_failed_few : b.core.events ≤ a.core.events + 2
-  flush_failed_few = let n = went.events in omega (arith, n)
-
   pub flush_failed_closes : IsAtRest o.core → ClosesSame o.core b.core
   flush_failed_closes old = flushes_close laws noted true o b old more.back
 
@@ -519,7 +448,7 @@ quota_most frames stripes number = go (nat_lt number (frames % stripes))
 -- as many entries as there may be: two for each resident page
 pub room_left : (laws : Laws) (c : Core) → IsAtRest c → 2 * left c None + 2 ≤ 4194304
 room_left laws c rest =
-    let few = at_most (λ (j : Key). is_dirty c j && is_past None j) (keys_in c) in
+    let few = length-filter_both (λ (j : Key). is_dirty c j && is_past None j) (λ (j : Key). not (is_dirty c j && is_past None j)) (λ j. refl) (keys_in c) in
     let as_many = length_keys c.pages in
     let within = laws.knows.within rest.history c rest.stands in
     let frames = rest.bounded.few_frames in

@@ -1,5 +1,5 @@
 -- What is found in a list, and what is read of it after one item is written over.
-use Rattle.std.proofs.Common.{Bool, List, None, Some, [], ap, cond, false, find, inl, inr, is_some, length, not, refl, slice_get, slice_set, subst, suc, true, zero, ℕ, ◌&&◌, ◌||◌, ◌∷◌, ◌≡◌}
+use Rattle.std.proofs.Common.{Bool, List, None, Option, Some, [], ap, arith, cond, false, find, inl, inr, is_some, length, not, refl, slice_get, slice_set, subst, suc, true, zero, ℕ, ◌&&◌, ◌||◌, ◌∷◌, ◌≡◌, ◌≤◌, ◌++◌, map}
 use Rattle.std.proofs.lemmas.Bool.{or_cases, or_left, or_right}
 use Rattle.std.specs.List.{AllByRecursion, list_any}
 
@@ -78,3 +78,27 @@ some_found {A} p (x ∷ xs) = go (p x) (some_found p xs)
     go : (b : Bool) → is_some (find p xs) ≡ list_any p xs → is_some (cond b (Some x) (find p xs)) ≡ (b || list_any p xs)
     go true rest = refl
     go false rest = rest
+
+-- ---- items by their place
+
+pub some_is : {A : Type 0} {a b : A} → Some a ≡ Some b → a ≡ b
+some_is {A} {a} {b} e = ap (from a) e
+  where
+    from : A → Option A → A
+    from d None = d
+    from d (Some v) = v
+
+pub past : {A : Type 0} (xs : List A) (q : ℕ) → slice_get xs q ≡ None → length xs ≤ q
+past [] q f = omega arith
+past (z ∷ xs) zero f = absurd (cc)
+past (z ∷ xs) (suc q) f = omega (arith, past xs q f)
+
+pub at_seam : {A : Type 0} (xs ys : List A) (x : A) → slice_get (xs ++ x ∷ ys) (length xs) ≡ Some x
+at_seam [] ys x = refl
+at_seam (z ∷ xs) ys x = at_seam xs ys x
+
+-- ---- items that are mapped
+
+pub any_map : {A B : Type 0} (test : B → Bool) (f : A → B) (xs : List A) → list_any test (map f xs) ≡ list_any (λ x. test (f x)) xs
+any_map test f [] = refl
+any_map test f (x ∷ xs) = ap (λ b. test (f x) || b) (any_map test f xs)

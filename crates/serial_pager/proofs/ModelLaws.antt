@@ -1,5 +1,5 @@
 -- The laws of histories that the lemmas are given, as the function `model_laws` has them.
-use Rattle.page_model.specs.Laws.{PagesAreOfStripe, CleanIsKept, SomethingIsNext, FewArePending, PendingHasLastWhy, ChosenKnows, WaitingIsAbsent}
+use Rattle.page_model.specs.Laws.{PagesAreOfStripe, SomethingIsNext, FewArePending, PendingHasLastWhy, ChosenKnows, WaitingIsAbsent}
 use Rattle.page_model.specs.Readers.{ServiceKnows, ReadersAgree, PagesShow, FlushKnows}
 
 abbrev pub Laws : Type 0
@@ -8,7 +8,6 @@ Laws = record {
   agree : ReadersAgree;
   show : PagesShow;
   pages : PagesAreOfStripe;
-  clean : CleanIsKept;
   next : SomethingIsNext;
   few : FewArePending;
   whys : PendingHasLastWhy;

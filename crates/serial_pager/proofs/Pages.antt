@@ -1,20 +1,27 @@
--- The page of a key, after a change of the resident pages.
-use Rattle.std.proofs.Common.{Bool, List, None, Option, Some, [], ap, arith, cond, false, find, inl, inr, length, map, not, refl, sym, true, ◌++◌, ◌∙◌, ◌∷◌, ◌≡◌, ◌<◌, ◌≤◌}
-use Rattle.std.proofs.lemmas.Bool.{cases_Bool, cond-true, cond-false}
-use Rattle.std.specs.Option.{option_map}
+-- Keys that are the same, and the resident pages by their keys.
+use Rattle.std.proofs.Common.{refl, true, ◌==◌, ◌≡◌, Bool, List, None, Option, Some, [], ap, arith, cond, false, find, inl, inr, length, map, not, sym, ◌++◌, ◌∙◌, ◌∷◌, ◌<◌, ◌≤◌}
+use Rattle.std.proofs.lemmas.Bool.{and_from, and_parts, eq-eqb, eqb-true, cases_Bool, cond-true, cond-false}
 use Rattle.page_base.specs.Pages.{same}
 use Rattle.page_base.specs.declared.keys.Key.{Key}
+use Rattle.std.specs.Option.{option_map}
 use Rattle.page_model.specs.Core.{Resident}
 use Rattle.page_model.specs.Steps.{on_page, without_page}
-use Rattle.serial_pager.proofs.Keys.{same-true}
-use Rattle.serial_pager.proofs.Lists.{find_passes}
+
+pub same-true : (a b : Key) → same a b ≡ true → a ≡ b
+same-true a b e =
+    let parts = and_parts (a.page == b.page) (a.region == b.region) e in
+    let p : a.page ≡ b.page = eqb-true a.page b.page parts.0 in
+    let r : a.region ≡ b.region = eqb-true a.region b.region parts.1 in
+    λ i. record { region = r i; page = p i }
+
+pub same_self : (a : Key) → same a a ≡ true
+same_self a = and_from (a.page == a.page) (a.region == a.region) (eq-eqb a.page a.page refl) (eq-eqb a.region a.region refl)
+
+-- ---- the page of a key, after a change of the resident pages
 
 -- page_at, over the list alone
 abbrev pub page_in : List Resident → Key → Option Resident
 page_in rs k = find (λ (r : Resident). same r.key k) rs
-
-pub found_key : (rs : List Resident) (k : Key) (r : Resident) → page_in rs k ≡ Some r → r.key ≡ k
-found_key rs k r e = same-true r.key k (find_passes (λ (x : Resident). same x.key k) rs r e)
 
 -- ---- one page more
 

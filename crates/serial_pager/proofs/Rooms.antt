@@ -1,6 +1,6 @@
 -- Making room: where a read waits for it, no frame is free, and the pick is the oldest page.
-use Rattle.std.proofs.Common.{Bool, List, None, Option, Some, [], ap, arith, cond, false, find, is_some, length, nat_lt, not, refl, subst, sym, true, ℕ, ◌&&◌, ◌∙◌, ◌∷◌, ◌≡◌, ◌<◌, ◌==◌, ◌≤◌, ◌||◌}
-use Rattle.std.proofs.lemmas.Bool.{and_parts, cond-true, cond-false, eq-eqb, false_from_ne_true, ltb-false}
+use Rattle.std.proofs.Common.{Bool, List, None, Option, Some, [], ap, arith, cond, false, find, length, nat_lt, not, refl, subst, sym, true, ℕ, ◌&&◌, ◌∙◌, ◌∷◌, ◌≡◌, ◌<◌, ◌==◌, ◌≤◌, ◌||◌}
+use Rattle.std.proofs.lemmas.Bool.{and_parts, cond-true, cond-false, eq-eqb, false_from_ne_true, ltb-false, or_right}
 use Rattle.std.specs.List.{AllByRecursion, list_any}
 use Rattle.std.specs.Option.{option_map}
 use Rattle.histories.specs.Histories.{History}
@@ -10,7 +10,7 @@ use Rattle.page_base.specs.declared.keys.Raise.{Raise}
 use Rattle.page_model.specs.declared.entry.Entry.{Entry}
 use Rattle.page_model.specs.declared.seen.Next.TheVariants as serve
 use Rattle.page_model.specs.declared.seen.Pick.{Pick}
-use Rattle.page_model.specs.Core.{Core, Resident, can_leave, dirties, is_dirty, is_guarded, is_home, is_present, is_servable, is_stale, is_writing, free_frames, next, pick, pick_of, place_passes, waits_for_room, writes}
+use Rattle.page_model.specs.Core.{Core, Resident, can_leave, is_guarded, is_home, is_servable, is_stale, is_writing, free_frames, next, pick, pick_of, place_passes, waits_for_room, writes}
 use Rattle.page_model.specs.Events.{IsPicked}
 use Rattle.page_model.specs.Faults.{is_protected_why, pending}
 use Rattle.page_model.specs.Serving.{chosen, next_of}
@@ -20,10 +20,9 @@ use Rattle.page_model.specs.InFlight as flight
 use Rattle.page_model.specs.Readers.{picked}
 use Rattle.serial_pager.specs.Rests.{IsAtRest}
 use Rattle.serial_pager.specs.InsideServices.{Picks}
-use Rattle.serial_pager.proofs.Keys.{same_self}
+use Rattle.serial_pager.proofs.Pages.{same_self, page_in}
 use Rattle.serial_pager.proofs.Lists.{any_none, none_passes}
 use Rattle.serial_pager.proofs.ModelLaws.{Laws}
-use Rattle.serial_pager.proofs.Pages.{page_in}
 
 cond_room : (b : Bool) → cond b serve.Room serve.Nothing ≡ serve.Room → b ≡ true
 cond_room true e = refl
@@ -68,12 +67,8 @@ idle_page laws c rest k page =
     let here = (laws.knows.here c k.region (rest.home k.region (laws.pages.region c.setup k page))).1 in
     ap (place_passes (λ place. writes place k)) here.is ∙ ap (λ place. writes place k) here.home
 
-or_true : (b : Bool) → (b || true) ≡ true
-or_true true = refl
-or_true false = refl
-
 leaves : (laws : Laws) (c : Core) → IsAtRest c → (r : Resident) → has_page c.setup r.key ≡ true → can_leave c r ≡ true
-leaves laws c rest r page = rw (idle_page laws c rest r.key page, rest.home r.key.region (laws.pages.region c.setup r.key page)) (or_true (not r.dirty))
+leaves laws c rest r page = rw (idle_page laws c rest r.key page, rest.home r.key.region (laws.pages.region c.setup r.key page)) (or_right (not r.dirty) true refl)
 
 -- the pick is the oldest page, since every lane is home
 pub oldest_picked : (laws : Laws) (c : Core) (k : Key) → IsAtRest c → IsPicked c k → Oldest c k
@@ -97,40 +92,14 @@ oldest_picked laws c k rest p = at c.pages refl p.picked
           there = ap (λ xs. page_in xs k) is ∙ cond-true (same r.key k) (Some r) (page_in rs k) here;
         }
 
--- what is known of the pick
-pub record PickKnown (c : Core) (p : Pick) : Type 0 where
-  pub page : has_page c.setup p.key ≡ true
-  pub present : is_present c p.key ≡ true
-  pub dirty : is_dirty c p.key ≡ p.dirty
-  pub home : is_home c p.key.region ≡ true
-  pub idle : is_writing c p.key ≡ false
-  pub picks : Picks c p.key
-
 not_less : (n : ℕ) → nat_lt 0 n ≡ false → (n == 0) ≡ true
 not_less n e = let low : n ≤ 0 = ltb-false 0 n e in eq-eqb n 0 (omega (arith, low))
 
-pub pick_known : (laws : Laws) (c : Core) (p : Pick) → IsAtRest c → next c ≡ serve.Room → pick c ≡ Some p → PickKnown c p
-pick_known laws c p rest room is =
-    let picked : IsPicked c p.key = record {
-      pressure = ap (λ b. c.evicting || b) (not_less (free_frames c) (none_free c room)) ∙ or_true c.evicting;
-      picked = ap (option_map (λ (x : Pick). x.key)) is;
-    } in
-    let old = oldest_picked laws c p.key rest picked in
-    let present : is_present c p.key ≡ true = ap is_some old.there in
-    let page = laws.knows.present rest.history c p.key rest.stands present in
-    let own : has_page c.setup old.page.key ≡ true = subst (λ (x : Key). has_page c.setup x ≡ true) (sym old.key) page in
-    let found : pick c ≡ Some (pick_of old.page) = ap (λ rs. option_map pick_of (find (can_leave c) rs)) old.pages
-    ∙ ap (option_map pick_of) (cond-true (can_leave c old.page) (Some old.page) (find (can_leave c) old.rest) (leaves laws c rest old.page own)) in
-    let one : Some (pick_of old.page) ≡ Some p = sym found ∙ is in
-    let same_pick : pick_of old.page ≡ p = cc in
-    record {
-      page = page;
-      present = present;
-      dirty = ap dirties old.there ∙ ap (λ (x : Pick). x.dirty) same_pick;
-      home = rest.home p.key.region (laws.pages.region c.setup p.key page);
-      idle = idle_page laws c rest p.key page;
-      picks = record { room = room; picked = picked };
-    }
+pub picks_now : (c : Core) (p : Pick) → next c ≡ serve.Room → pick c ≡ Some p → Picks c p.key
+picks_now c p room is = record {
+  room = room;
+  picked = record { pressure = ap (λ b. c.evicting || b) (not_less (free_frames c) (none_free c room)) ∙ or_right c.evicting true refl; picked = ap (option_map (λ (x : Pick). x.key)) is };
+}
 
 home_everywhere : (laws : Laws) (c : Core) (h : History Entry) → StandsFor h c → ((r : ℕ) → r < regions c.setup → is_home c r ≡ true) → (r : ℕ) → r < regions c.setup → flight.is_home h r ≡ true
 home_everywhere laws c h st home r within = let reads = laws.agree.regions h c r st within in sym reads.home ∙ home r within
@@ -155,9 +124,3 @@ something_next laws c rest waits none =
     let next_h : next_of c.setup h ≡ serve.Nothing = sym reads.next ∙ none in
     let some : 0 < length (pending h) = subst (λ (ps : List Raise). 0 < length ps) rest.stands.queue waits in
     (laws.next c.setup h rest.stands.fits rest.stands.legal (home_everywhere laws c h rest.stands rest.home) some).something next_h
-
-pub picks_home : (laws : Laws) (c : Core) (k : Key) → IsAtRest c → Picks c k → is_home c k.region ≡ true
-picks_home laws c k rest p =
-    let old = oldest_picked laws c k rest p.picked in
-    let page = laws.knows.present rest.history c k rest.stands (ap is_some old.there) in
-    rest.home k.region (laws.pages.region c.setup k page)

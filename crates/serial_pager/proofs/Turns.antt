@@ -1,36 +1,114 @@
--- Each service leaves an access fewer turns.
-use Rattle.std.proofs.Common.{Bool, List, None, Option, Some, [], ap, arith, cond, false, find, inl, inr, is_some, length, length-append, nat_lt, not, refl, subst, sym, true, ◌&&◌, ◌*◌, ◌+◌, ◌++◌, ◌∙◌, ◌∷◌, ◌≡◌, ◌<◌, ◌≤◌, ◌⊎◌}
-use Rattle.std.proofs.lemmas.Bool.{and_parts, cond-true, false_from_ne_true, lt-ltb, or_cases}
-use Rattle.std.specs.List.{AllByRecursion, list_any}
-use Rattle.std.specs.Option.{option_map}
-use Rattle.histories.specs.Histories.{History}
+-- How many services an access still waits for, so that its loop ends: one for each fault that waits, one for its own page
+-- where the right fault doesn't wait yet, and the steps of making room. Each service leaves it fewer.
+use Rattle.std.proofs.Common.{Bool, List, None, Option, Some, [], arith, cond, false, inl, inr, length, nat_lt, true, ℕ, ◌&&◌, ◌*◌, ◌+◌, ◌∷◌, ◌≡◌, ◌<◌, ◌≤◌, ◌⊎◌, ap, find, is_some, length-append, not, refl, subst, sym, ◌++◌, ◌∙◌}
+use Rattle.std.proofs.lemmas.Bool.{cases_Bool, and_parts, cond-true, false_from_ne_true, lt-ltb, or_cases}
 use Rattle.page_base.specs.Pages.{same}
 use Rattle.page_base.specs.declared.keys.Key.{Key}
 use Rattle.page_base.specs.declared.keys.Raise.{Raise}
+use Rattle.page_model.specs.Core.{Core, Resident, free_frames, Reading, dirties, is_closing, is_guarded, is_home, is_pending, is_present, is_servable, is_stale, protects, waits_for_room, why_of_place, why_out, why_pending, why_or_read}
+use Rattle.page_model.specs.Faults.{is_write, is_protected_why, is_waiting, last_why, pending, served}
+use Rattle.serial_pager.proofs.Pages.{same-true, same_self, page_in, appended_here, appended_other, changed_here, changed_other, removed_fewer, removed_here, removed_other}
+use Rattle.serial_pager.proofs.Queues.{raise_in, raised_new, few_wait, raised_here, served_fewer, served_here, served_other}
+use Rattle.std.specs.List.{AllByRecursion, list_any}
+use Rattle.std.specs.Option.{option_map}
+use Rattle.histories.specs.Histories.{History}
 use Rattle.page_base.specs.declared.keys.Why.{Why}
 use Rattle.page_base.specs.declared.keys.Why.TheVariants.{Read, Write, Protected, Ahead}
 use Rattle.page_model.specs.declared.entry.Entry.{Entry}
-use Rattle.page_model.specs.Core.{Core, Resident, Reading, dirties, is_closing, is_guarded, is_home, is_pending, is_present, is_servable, is_stale, free_frames, protects, waits_for_room, why_of_place, why_out, why_pending, why_or_read}
 use Rattle.page_model.specs.Readers.{ReadyToOpen, ReadyToRead}
 use Rattle.serial_pager.specs.declared.fault.PageFault.{PageFault}
 use Rattle.page_model.specs.Laws.{waits_for}
-use Rattle.page_model.specs.Faults.{is_write, is_protected_why, is_waiting, last_why, pending, served}
 use Rattle.page_model.specs.Stands.{StandsFor}
 use Rattle.page_model.specs.Steps as step
 use Rattle.page_model.specs.Steps.{on_page, filled_page, placed, without_page}
 use Rattle.page_model.specs.Residents.{is_resident}
 use Rattle.serial_pager.specs.Rests.{IsAtRest}
 use Rattle.serial_pager.specs.InsideServices.{Drops, Opens, Fills, Misses, Cleans, Evicts, Raises, Serves}
-use Rattle.serial_pager.proofs.Asks.{raised_new}
-use Rattle.serial_pager.proofs.Keys.{same-true, same_self}
 use Rattle.serial_pager.proofs.Lists.{all_found, find_passes, found_any, none_found, some_found}
 use Rattle.serial_pager.proofs.ModelLaws.{Laws}
-use Rattle.serial_pager.proofs.Waits.{few_wait}
-use Rattle.serial_pager.proofs.Pages.{page_in, appended_here, appended_other, changed_here, changed_other, removed_fewer, removed_here, removed_other}
-use Rattle.serial_pager.proofs.Queues.{raise_in, raised_here, served_fewer, served_here, served_other}
-use Rattle.serial_pager.proofs.Regions.{on_region_here}
+use Rattle.serial_pager.proofs.Rests.{on_region_here}
 use Rattle.serial_pager.proofs.Rooms.{Oldest, chosen_room, none_free, oldest_picked}
-use Rattle.serial_pager.proofs.Measures.{cases_key, falls_by_queue, falls_by_room, head_least, head_room, misses, own, own_most, room, room_most, room_of, turns_left}
+
+-- the page's own fault has to be raised still, or is the wrong one
+abbrev pub own_load : Option Resident → Option Raise → ℕ
+own_load None None = 1
+own_load None (Some p) = cond (is_protected_why p.why) 1 0
+own_load (Some r) o = 0
+
+abbrev pub own_store : Option Resident → Option Raise → ℕ
+own_store None None = 1
+own_store None (Some p) = cond (is_write p.why) 0 1
+own_store (Some r) None = cond r.protected 1 0
+own_store (Some r) (Some p) = 0
+
+abbrev pub own : (stores : Bool) → Option Resident → Option Raise → ℕ
+own true page raise = own_store page raise
+own false page raise = own_load page raise
+
+-- the steps that make room: none where a frame is free, one where the oldest page is clean
+abbrev pub head_room : List Resident → ℕ
+head_room [] = 1
+head_room (r ∷ rs) = cond r.dirty 2 1
+
+abbrev pub room_of : Bool → List Resident → ℕ
+room_of free pages = cond free 0 (head_room pages)
+
+abbrev pub room : Core → ℕ
+room c = room_of (nat_lt 0 (free_frames c)) c.pages
+
+abbrev pub turns_left : Bool → Core → Key → ℕ
+turns_left stores c k = 4 * (length c.queue + own stores (page_in c.pages k) (raise_in c.queue k)) + room c
+
+-- the access finds the page missing, or protected where it stores
+abbrev pub misses : (stores : Bool) → Option Resident → Bool
+misses stores None = true
+misses stores (Some r) = stores && r.protected
+
+-- ---- bounds
+
+cond_most : (b : Bool) (x y n : ℕ) → x ≤ n → y ≤ n → cond b x y ≤ n
+cond_most true x y n p q = p
+cond_most false x y n p q = q
+
+cond_least : (b : Bool) (x y n : ℕ) → n ≤ x → n ≤ y → n ≤ cond b x y
+cond_least true x y n p q = p
+cond_least false x y n p q = q
+
+pub own_most : (stores : Bool) (page : Option Resident) (raise : Option Raise) → own stores page raise ≤ 1
+own_most true None None = omega arith
+own_most true None (Some p) = cond_most (is_write p.why) 0 1 1 (omega arith) (omega arith)
+own_most true (Some r) None = cond_most r.protected 1 0 1 (omega arith) (omega arith)
+own_most true (Some r) (Some p) = omega arith
+own_most false None None = omega arith
+own_most false None (Some p) = cond_most (is_protected_why p.why) 1 0 1 (omega arith) (omega arith)
+own_most false (Some r) o = omega arith
+
+head_most : (rs : List Resident) → head_room rs ≤ 2
+head_most [] = omega arith
+head_most (r ∷ rs) = cond_most r.dirty 2 1 2 (omega arith) (omega arith)
+
+pub head_least : (rs : List Resident) → 1 ≤ head_room rs
+head_least [] = omega arith
+head_least (r ∷ rs) = cond_least r.dirty 2 1 1 (omega arith) (omega arith)
+
+pub room_most : (free : Bool) (rs : List Resident) → room_of free rs ≤ 2
+room_most free rs = cond_most free 0 (head_room rs) 2 (omega arith) (head_most rs)
+
+-- ---- what makes it less
+
+-- a fault less waits, and the page's own counts no more
+pub falls_by_queue : (q p o w r s : ℕ) → q < p → o ≤ w → r ≤ 2 → 4 * (q + o) + r < 4 * (p + w) + s
+falls_by_queue q p o w r s a b c = omega arith
+
+-- as many wait, and there is more room
+pub falls_by_room : (q o w r s : ℕ) → o ≤ w → r < s → 4 * (q + o) + r < 4 * (q + w) + s
+falls_by_room q o w r s a b = omega arith
+
+pub cases_key : (a b : Key) → (a ≡ b) ⊎ (a ≡ b → ⊥)
+cases_key a b = elim (cases_Bool (same a b)) [
+  | inl t ↦ inl (same-true a b t)
+  | inr n ↦ inr (λ e. let t : same a b ≡ true = rw e (same_self b) in cc)
+]
 
 -- ---- the fault of a page
 

@@ -1,6 +1,6 @@
 -- How a stripe and its journal went on in one service.
 use Rattle.std.specs.Prelude.{◌≡◌, ℕ, true, false, Bool, List, [], ◌∷◌}
-use Rattle.std.specs.List.{list_all}
+use Rattle.std.specs.List.{list_all, list_any}
 use Rattle.histories.specs.Histories.{History}
 use Rattle.page_base.specs.declared.keys.Key.{Key}
 use Rattle.page_base.specs.declared.keys.Why.{Why}
@@ -8,11 +8,11 @@ use Rattle.page_model.specs.declared.entry.Cause.{Cause}
 use Rattle.page_model.specs.declared.entry.Cause.TheVariants.{Flush}
 use Rattle.page_model.specs.declared.entry.Entry.{Entry}
 use Rattle.page_model.specs.declared.entry.Entry.TheVariants.{StartRead, Filled, ReadFailed, StartWrite, Written, WriteFailed}
-use Rattle.page_model.specs.Core.{is_dirty}
 use Rattle.serial_pager.specs.declared.fault.PageFault.{PageFault}
 use Rattle.serial_pager.specs.Accesses.{serves, AccessFails}
 use Rattle.serial_pager.specs.Seen.{StripeSeen}
 use Rattle.serial_pager.specs.Goings.{Went}
+use Rattle.serial_pager.specs.Writings.{flushes, is_failed_write}
 
 module _ {J : Type 0} where
   -- By entries that all pass a test.
@@ -35,7 +35,7 @@ module _ {J : Type 0} where
 
   -- A service failed, and with it the access of page k that it was for.
   abbrev pub ServiceFails : (owner : ℕ) (has_noted : J → History Entry → Type 0) → Key → (old new : StripeSeen J) → PageFault → Type 0
-  ServiceFails owner has_noted k old new f = (reasons : Why → Bool) → AccessFails owner has_noted k reasons (is_dirty old.core) old new f
+  ServiceFails owner has_noted k old new f = (reasons : Why → Bool) → AccessFails owner has_noted k reasons old new f
 
   -- A page was read in.
   abbrev pub ReadsIn : (owner : ℕ) (has_noted : J → History Entry → Type 0) → (old new : StripeSeen J) → Type 0
@@ -57,3 +57,10 @@ module _ {J : Type 0} where
   abbrev pub TriesToWrite : (owner : ℕ) (has_noted : J → History Entry → Type 0) → Key → (failed : Bool) → (old new : StripeSeen J) → Type 0
   TriesToWrite owner has_noted k true old new = (f : PageFault) × FailsToWriteOut owner has_noted k Flush old new f
   TriesToWrite owner has_noted k false old new = WritesOut owner has_noted k Flush old new
+
+  -- Dirty pages were written: by writes for a flush alone, of which one failed or none did.
+  pub record WroteBack (owner : ℕ) (has_noted : J → History Entry → Type 0) (failed : Bool) (old new : StripeSeen J) : Type 0 where
+    pub entries : List Entry
+    pub pass : list_all flushes entries ≡ true
+    pub fails : list_any is_failed_write entries ≡ failed
+    pub went : Went owner has_noted entries old new

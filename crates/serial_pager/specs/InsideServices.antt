@@ -1,9 +1,9 @@
 -- The services of a stripe whose lanes are all home, each by the steps that it takes.
-use Rattle.std.specs.Prelude.{◌≡◌, ℕ, ◌≤◌, ◌⊎◌, ◌≢◌, Bool, true, false, not, ◌||◌, if◌then◌else◌, List}
+use Rattle.std.specs.Prelude.{◌≡◌, ℕ, ◌⊎◌, ◌≢◌, Bool, true, false, not, ◌||◌, if◌then◌else◌, List}
 use Rattle.page_base.specs.declared.keys.Key.{Key}
 use Rattle.page_base.specs.declared.keys.Why.{Why}
 use Rattle.page_base.specs.declared.keys.Why.TheVariants.{Write, Protected}
-use Rattle.page_base.specs.Lanes.{LaneSeen, Rose}
+use Rattle.page_base.specs.Lanes.{LaneSeen}
 use Rattle.page_model.specs.declared.seen.Next.TheVariants as serve
 use Rattle.page_model.specs.Core.{Core, next, is_dirty, is_present, is_guarded}
 use Rattle.page_model.specs.Events.{IsPicked}
@@ -11,7 +11,6 @@ use Rattle.page_model.specs.Steps as step
 use Rattle.stripe_core.specs.Answers.{raise_answer}
 use Rattle.stripe_core.specs.declared.answers.Raise.TheVariants as raise
 use Rattle.serial_pager.specs.declared.fault.PageFault.{PageFault}
-use Rattle.serial_pager.specs.Holdings.{count_at}
 
 -- a store finds the page missing or protected
 abbrev pub is_shut : Core → Key → Bool
@@ -43,31 +42,23 @@ pub record Fills (c d : Core) : Type 0 where
   pub bytes : List ℕ
   pub lane : LaneSeen
   pub next : next c ≡ serve.Read key
-  pub count : count_at c key.region ≤ lane.count
   pub is : d ≡ step.filled (step.start_read c key) key bytes lane
 
 -- a page's read failed
 pub record Misses (c d : Core) (f : PageFault) : Type 0 where
   pub lane : LaneSeen
   pub next : next c ≡ serve.Read f.key
-  pub count : f.faults ≡ lane.count
-  pub later : count_at c f.key.region ≤ lane.count
-  pub rose : Rose (count_at c f.key.region) lane.count
   pub is : d ≡ step.read_failed (step.start_read c f.key) f.key lane lane.count
 
 -- a page was written back
 pub record Writes (k : Key) (c d : Core) : Type 0 where
   pub lane : LaneSeen
-  pub count : count_at c k.region ≤ lane.count
   pub is : d ≡ step.written (step.start_write c k) k lane
 
 -- a page's write failed
 pub record FailsToWrite (k : Key) (c d : Core) (f : PageFault) : Type 0 where
   pub key : f.key ≡ k
   pub lane : LaneSeen
-  pub count : f.faults ≡ lane.count
-  pub later : count_at c k.region ≤ lane.count
-  pub rose : Rose (count_at c k.region) lane.count
   pub is : d ≡ step.write_failed (step.start_write c k) k lane
 
 -- a write of the page failed, or the page was written back
@@ -87,12 +78,6 @@ pub record Cleans (c d : Core) : Type 0 where
   pub dirty : is_dirty c key ≡ true
   pub writes : Writes key c d
 
--- the pick was dirty, and its write failed
-pub record FailsToClean (c d : Core) (f : PageFault) : Type 0 where
-  pub picks : Picks c f.key
-  pub dirty : is_dirty c f.key ≡ true
-  pub fails : FailsToWrite f.key c d f
-
 -- the pick was evicted, since it was clean
 pub record Evicts (c d : Core) : Type 0 where
   pub key : Key
@@ -107,7 +92,3 @@ MissesOther k c d = (f : PageFault) × ((f.key ≡ k → ⊥) × Misses c d f)
 -- a service that page k can go on after
 abbrev pub Serves : Key → (c d : Core) → Type 0
 Serves k c d = Drops c d ⊎ (Opens c d ⊎ (Fills c d ⊎ (MissesOther k c d ⊎ (Cleans c d ⊎ Evicts c d))))
-
--- a service that page k can't go on after
-abbrev pub Faults : Key → (c d : Core) → PageFault → Type 0
-Faults k c d f = ((f.key ≡ k) × Misses c d f) ⊎ FailsToClean c d f

@@ -1,5 +1,4 @@
 pub mod Seen
-pub mod Holdings
 pub mod Rests
 pub mod Goings
 pub mod InsideGoings
@@ -9,6 +8,7 @@ pub mod Unmappings
 pub mod InsideServices
 pub mod InsideUnmappings
 pub mod Pagers
+pub mod UnmapsAll
 pub mod Returned
 pub mod Sound
 pub mod InsideSound

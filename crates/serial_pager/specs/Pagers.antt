@@ -1,15 +1,15 @@
--- What contracts see of a pager: its stripes, and what its pages hold whatever stripe they are in.
-use Rattle.std.specs.Prelude.{◌≡◌, ℕ, ◌+◌, ◌<◌, ◌≤◌, ◌⊎◌, ◌==◌, ◌||◌, if◌then◌else◌, Bool, true, false, nat_lt, List, [], ◌∷◌, length, map, slice_get, Option, Some, None, IfSome, option_map}
-use Rattle.std.specs.List.{list_all, list_any}
+-- What contracts see of a pager: its stripes, and which of them has a page.
+use Rattle.std.specs.Prelude.{◌≡◌, ℕ, ◌+◌, ◌<◌, ◌≤◌, ◌⊎◌, ◌==◌, if◌then◌else◌, Bool, true, false, nat_lt, List, [], ◌∷◌, length, map, slice_get, Option, Some, None, option_map}
+use Rattle.std.specs.List.{list_all}
 use Rattle.histories.specs.Histories.{History}
 use Rattle.page_base.specs.declared.keys.Key.{Key}
 use Rattle.page_base.specs.declared.keys.RegionShape.{RegionShape}
 use Rattle.page_base.specs.declared.keys.Why.{Why}
-use Rattle.page_base.specs.Lanes.{LaneSeen, Rose}
-use Rattle.page_base.specs.Pages.{same, stripe_of}
+use Rattle.page_base.specs.Lanes.{LaneSeen}
+use Rattle.page_base.specs.Pages.{stripe_of}
 use Rattle.page_model.specs.declared.entry.Entry.{Entry}
 use Rattle.page_model.specs.declared.entry.Entry.TheVariants.{Load, Save, ReadFailed, WriteFailed}
-use Rattle.page_model.specs.Setups.{Setup, quota, told_in, count_by, origin_of}
+use Rattle.page_model.specs.Setups.{Setup, quota, origin_of}
 use Rattle.page_model.specs.Core.{Core, is_closing, is_unmapped}
 use Rattle.page_model.specs.Readers.{IsHere}
 use Rattle.page_model.specs.Stands.{StandsFor}
@@ -23,15 +23,13 @@ use Rattle.serial_pager.specs.declared.fault.UnmapError.{UnmapError}
 use Rattle.serial_pager.specs.declared.fault.UnmapError.TheVariants as unmap_error
 use Rattle.serial_pager.specs.declared.pager.PagerConfig.{PagerConfig}
 use Rattle.serial_pager.specs.Seen.{StripeSeen}
-use Rattle.serial_pager.specs.Holdings as stripe
-use Rattle.serial_pager.specs.Holdings.{is_for_store}
-use Rattle.serial_pager.specs.Accesses.{serves, is_read}
+use Rattle.serial_pager.specs.Accesses.{serves, is_read, is_for_store}
 use Rattle.serial_pager.specs.Goings.{Went, EachDid, OneFailed}
-use Rattle.serial_pager.specs.Writings.{flushes, is_failed_write, LeavesClean, TriesDirty, WritesAll, WritesUpTo}
+use Rattle.serial_pager.specs.Writings.{WritesAll, WritesUpTo}
 use Rattle.serial_pager.specs.Unmappings.{Unmaps, FailsToUnmap}
 
--- the stripes in order of number; `spent` counts the pieces that were loaded or stored, and each call that writes all dirty pages,
--- flushes or unmaps as MOST_STRIPES of them
+-- the stripes in order of number; `spent` counts the pieces that were loaded or stored, each call that flushes or unmaps as
+-- MOST_STRIPES of them, and one that unmaps all as MOST_STRIPES for each region
 pub record PagerSeen (J : Type 0) : Type 0 where
   pub page_size : ℕ
   pub shapes : List RegionShape  -- by the region's number
@@ -71,22 +69,6 @@ abbrev pub core_in : {J : Type 0} → Option (StripeSeen J) → Option Core
 core_in None = None
 core_in (Some x) = Some x.core
 
-abbrev pub held_in : Option Core → Key → Option (List ℕ)
-held_in None k = None
-held_in (Some c) k = stripe.held c k
-
-abbrev pub kept_in : Option Core → Key → Option (List ℕ)
-kept_in None k = None
-kept_in (Some c) k = stripe.told c k
-
-abbrev pub owes_in : Option Core → Key → Bool
-owes_in None k = false
-owes_in (Some c) k = stripe.owes c k
-
-abbrev pub count_in : Option Core → ℕ → ℕ
-count_in None r = 0
-count_in (Some c) r = stripe.count_at c r
-
 abbrev pub closes_in : Option Core → ℕ → Bool
 closes_in None r = false
 closes_in (Some c) r = is_closing c r
@@ -116,22 +98,6 @@ module _ {J : Type 0} where
   -- the stripe of a page
   abbrev pub stripe_at : PagerSeen J → Key → ℕ
   stripe_at p k = stripe_of (length p.stripes) (group_in (slice_get p.shapes k.region)) k.region k.page
-
-  -- what a page holds, none where its lane didn't tell it at the start
-  abbrev pub held : PagerSeen J → Key → Option (List ℕ)
-  held p k = held_in (core_at p (stripe_at p k)) k
-
-  -- what its lane tells of a page
-  abbrev pub kept : PagerSeen J → Key → Option (List ℕ)
-  kept p k = kept_in (core_at p (stripe_at p k)) k
-
-  -- the page may have to be written
-  abbrev pub owes : PagerSeen J → Key → Bool
-  owes p k = owes_in (core_at p (stripe_at p k)) k
-
-  -- the faults that one stripe's lane of a region counts
-  abbrev pub count_at : PagerSeen J → (stripe region : ℕ) → ℕ
-  count_at p s r = count_in (core_at p s) r
 
   -- the region closes in a stripe, or is unmapped there
   abbrev pub closes_at : PagerSeen J → (stripe region : ℕ) → Bool
@@ -164,8 +130,8 @@ module _ {J : Type 0} where
     pub setups : (s : ℕ) → setup_at new s ≡ setup_at old s
     pub closes : (s r : ℕ) → closes_at new s r ≡ closes_at old s r
 
-  -- the same regions, and the same stripes as they were made, in which all regions but one close as before, and that one doesn't
-  -- open again
+  -- the same regions, and the same stripes as they were made, in which all regions but one close as before, that one doesn't open
+  -- again, and none is mapped again
   pub record ClosesOnly (region : ℕ) (old new : PagerSeen J) : Type 0 where
     pub page_size : new.page_size ≡ old.page_size
     pub shapes : new.shapes ≡ old.shapes
@@ -173,6 +139,7 @@ module _ {J : Type 0} where
     pub setups : (s : ℕ) → setup_at new s ≡ setup_at old s
     pub others : (s r : ℕ) → (r ≡ region → ⊥) → closes_at new s r ≡ closes_at old s r
     pub stays : (s : ℕ) → closes_at old s region ≡ true → closes_at new s region ≡ true
+    pub gone : (r : ℕ) → is_gone old r ≡ true → is_gone new r ≡ true
 
   -- in each stripe these entries were made, the newest first
   abbrev pub WentAll : (owner : ℕ) (has_noted : J → History Entry → Type 0) → (made : ℕ → List Entry) → (old new : PagerSeen J) → Type 0
@@ -193,34 +160,28 @@ module _ {J : Type 0} where
   abbrev pub StoresPiece : (owner : ℕ) (has_noted : J → History Entry → Type 0) → Key → (place : ℕ) → List ℕ → (old new : PagerSeen J) → Type 0
   StoresPiece owner has_noted k place bytes old new = WentToIn owner has_noted (stripe_at old k) (serves k is_for_store) (Save k place bytes) old new
 
-  -- the page's stripe failed at a read of the page itself, or at a write of a page that may have had to be written
-  abbrev pub PieceFails : (owner : ℕ) (has_noted : J → History Entry → Type 0) → Key → (reasons : Why → Bool) → (may_owe : Key → Bool) → (old new : PagerSeen J) → PageFault → Type 0
-  PieceFails owner has_noted k reasons may_owe old new f =
+  -- the page's stripe failed at a read of the page itself, or at a write that was to make room
+  abbrev pub PieceFails : (owner : ℕ) (has_noted : J → History Entry → Type 0) → Key → (reasons : Why → Bool) → (old new : PagerSeen J) → PageFault → Type 0
+  PieceFails owner has_noted k reasons old new f =
       ((f.key ≡ k) × WentToIn owner has_noted (stripe_at old k) (serves k reasons) (ReadFailed f.key f.faults) old new)
-      ⊎ ((may_owe f.key ≡ true) × WentToIn owner has_noted (stripe_at old k) (serves k reasons) (WriteFailed f.key f.faults) old new)
+      ⊎ WentToIn owner has_noted (stripe_at old k) (serves k reasons) (WriteFailed f.key f.faults) old new
 
   -- so it failed to load the page
   abbrev pub FailsToLoad : (owner : ℕ) (has_noted : J → History Entry → Type 0) → Key → (old new : PagerSeen J) → PageFault → Type 0
-  FailsToLoad owner has_noted k old new f = PieceFails owner has_noted k is_read (owes old) old new f
+  FailsToLoad owner has_noted k = PieceFails owner has_noted k is_read
 
   -- so it failed to store to it
   abbrev pub FailsToStore : (owner : ℕ) (has_noted : J → History Entry → Type 0) → Key → (old new : PagerSeen J) → PageFault → Type 0
-  FailsToStore owner has_noted k old new f = PieceFails owner has_noted k is_for_store (λ j. owes old j || same j k) old new f
+  FailsToStore owner has_noted k = PieceFails owner has_noted k is_for_store
+
+  -- the fault is of a page that lies in the same stripe as page k
+  pub record NamesFault (k : Key) (p : PagerSeen J) (f : PageFault) : Type 0 where
+    pub page : has_key p f.key ≡ true
+    pub stripe : stripe_at p f.key ≡ stripe_at p k
 
   -- what the stripes' journals were made with
   abbrev pub journals_made : {M : Type 0} → (J → M) → PagerSeen J → List M
   journals_made made_with p = map (λ (x : StripeSeen J). made_with x.journal) p.stripes
-
-  -- Every stripe wrote its dirty pages, by writes for a flush alone, each page once: some write failed, or none did. Only a
-  -- failed write leaves a page of its region dirty in its stripe.
-  pub record WroteDirty (owner : ℕ) (has_noted : J → History Entry → Type 0) (failed : Bool) (old new : PagerSeen J) : Type 0 where
-    pub made : ℕ → List Entry  -- by the stripe's number
-    pub went : WentAll owner has_noted made old new
-    pub pass : (s : ℕ) → list_all flushes (made s) ≡ true
-    pub some : failed ≡ true → (s : ℕ) × (s < length old.stripes) × (list_any is_failed_write (made s) ≡ true)
-    pub none : failed ≡ false → (s : ℕ) → list_any is_failed_write (made s) ≡ false
-    pub once : (s : ℕ) (x : StripeSeen J) → slice_get old.stripes s ≡ Some x → TriesDirty x.core (made s)
-    pub clean : (s : ℕ) (y : StripeSeen J) → slice_get new.stripes s ≡ Some y → LeavesClean (made s) y.core
 
   -- A flush ended with a failed write of this page: the stripes below the page's were flushed, and those above it made nothing.
   pub record FlushFails (owner : ℕ) (has_noted : J → History Entry → Type 0) (old new : PagerSeen J) (f : PageFault) : Type 0 where
@@ -246,57 +207,6 @@ module _ {J : Type 0} where
     pub each : EachDid owner has_noted (Unmaps region) old.stripes new.stripes
     pub gone : is_gone new region ≡ true
 
-  -- each page holds what it held
-  abbrev pub HoldsSame : (old new : PagerSeen J) → Type 0
-  HoldsSame old new = (k : Key) → has_key old k ≡ true → held new k ≡ held old k
-
-  -- each page but one holds what it held
-  abbrev pub HoldsOthers : Key → (old new : PagerSeen J) → Type 0
-  HoldsOthers k old new = (j : Key) → has_key old j ≡ true → (j ≡ k → ⊥) → held new j ≡ held old j
-
-  -- a page that needn't be written is told by its lane as it is held
-  abbrev pub KeepsUnowed : PagerSeen J → Type 0
-  KeepsUnowed p = (k : Key) → has_key p k ≡ true → owes p k ≡ false → IfSome (held p k) (λ bytes. kept p k ≡ Some bytes)
-
-  -- for each stripe's lane of each region
-  abbrev pub ForEachLane : PagerSeen J → ((stripe region : ℕ) → Type 0) → Type 0
-  ForEachLane p Holds = (s r : ℕ) → s < length p.stripes → r < length p.shapes → Holds s r
-
-  -- for some stripe's lane of some region
-  abbrev pub ForSomeLane : PagerSeen J → ((stripe region : ℕ) → Type 0) → Type 0
-  ForSomeLane p Holds = (s : ℕ) × (r : ℕ) × (s < length p.stripes) × (r < length p.shapes) × Holds s r
-
-  -- no lane's count fell
-  abbrev pub CountsGrow : (old new : PagerSeen J) → Type 0
-  CountsGrow old new = (s r : ℕ) → count_at old s r ≤ count_at new s r
-
-  -- The fault is of the page that was asked for, or of a page of its stripe that might have to be written; the page's lane
-  -- counts it
-  pub record NamesFault (k : Key) (old new : PagerSeen J) (f : PageFault) : Type 0 where
-    pub page : has_key old f.key ≡ true
-    pub stripe : stripe_at old f.key ≡ stripe_at old k
-    pub whose : (f.key ≡ k) ⊎ (owes old f.key ≡ true)
-    pub count : f.faults ≡ count_at new (stripe_at old k) f.key.region
-    pub rose : Rose (count_at old (stripe_at old k) f.key.region) f.faults
-
-  -- a lane counts more faults than before
-  abbrev pub RoseAt : (old new : PagerSeen J) → (stripe region : ℕ) → Type 0
-  RoseAt old new s r = Rose (count_at old s r) (count_at new s r)
-
-  -- a stripe's lanes tell what each page of the region holds
-  abbrev pub IsKept : PagerSeen J → (stripe region : ℕ) → Type 0
-  IsKept p s r = (k : Key) → k.region ≡ r → has_key p k ≡ true → stripe_at p k ≡ s → IfSome (held p k) (λ bytes. kept p k ≡ Some bytes)
-
-  -- or a write of one of them failed
-  abbrev pub IsTried : (old new : PagerSeen J) → (stripe region : ℕ) → Type 0
-  IsTried old new s r = RoseAt old new s r ⊎ IsKept new s r
-
-  -- the stripes' lanes, by these rows, tell of each page what the pager's do
-  abbrev pub TellsKept : PagerSeen J → List (List LaneSeen) → Type 0
-  TellsKept p rows =
-      (k : Key) (row : List LaneSeen) → has_key p k ≡ true → slice_get rows (stripe_at p k) ≡ Some row
-      → told_in (slice_get row k.region) k.page ≡ kept p k
-
   pub record AreRowsOf (p : PagerSeen J) (rows : List (List LaneSeen)) : Type 0 where
     pub count : length rows ≡ length p.stripes
     pub each : (s : ℕ) (row : List LaneSeen) (c : Core) → slice_get rows s ≡ Some row → core_at p s ≡ Some c → AreLanesOfCore c row
@@ -314,7 +224,4 @@ module _ {J : Type 0} where
     pub spent : p.spent ≡ 0
     pub each : (s : ℕ) (row : List LaneSeen) (journal : J) (x : StripeSeen J) → slice_get rows s ≡ Some row → slice_get journals s ≡ Some journal
         → slice_get p.stripes s ≡ Some x → IsMade c s row journal x
-    pub holds : (k : Key) (row : List LaneSeen) → slice_get rows (stripe_at p k) ≡ Some row → held p k ≡ told_in (slice_get row k.region) k.page
-    pub owes : (k : Key) → owes p k ≡ false
     pub open_ : (s r : ℕ) → closes_at p s r ≡ false
-    pub counts : (s r : ℕ) (row : List LaneSeen) → slice_get rows s ≡ Some row → count_at p s r ≡ count_by (slice_get row r)

@@ -59,7 +59,8 @@ pub record FailsToUnmap (r : ℕ) (f : PageFault) (old : Core) (es : List Entry)
   pub closing : is_closing new r ≡ true
   pub mapped : is_unmapped new r ≡ false
 
--- the other regions close as before, and this one doesn't open again
+-- the other regions close as before, this one doesn't open again, and none is mapped again
 pub record ClosesOne (r : ℕ) (old new : Core) : Type 0 where
   pub others : (q : ℕ) → (q ≡ r → ⊥) → is_closing new q ≡ is_closing old q
   pub stays : is_closing old r ≡ true → is_closing new r ≡ true
+  pub gone : (q : ℕ) → is_unmapped old q ≡ true → is_unmapped new q ≡ true

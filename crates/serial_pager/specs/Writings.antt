@@ -1,22 +1,17 @@
--- What writing all dirty pages makes a stripe do, and what flushing it does.
-use Rattle.std.specs.Prelude.{◌≡◌, ℕ, ◌<◌, ◌⊎◌, ◌==◌, ◌&&◌, not, Bool, true, false, List, [], ◌∷◌}
+-- What flushing a stripe makes it do.
+use Rattle.std.specs.Prelude.{◌≡◌, ℕ, ◌==◌, ◌&&◌, not, Bool, true, false, List, [], ◌∷◌}
 use Rattle.std.specs.Bool.{⊤}
 use Rattle.std.specs.List.{AllByRecursion, list_all, list_any}
-use Rattle.histories.specs.Histories.{History}
 use Rattle.page_base.specs.declared.keys.Key.{Key}
 use Rattle.page_base.specs.KeyOrder.{is_below}
-use Rattle.page_base.specs.Lanes.{Rose}
 use Rattle.page_model.specs.declared.entry.Cause.{Cause}
 use Rattle.page_model.specs.declared.entry.Cause.TheVariants.{Flush}
 use Rattle.page_model.specs.declared.entry.Entry.{Entry}
 use Rattle.page_model.specs.declared.entry.Entry.TheVariants.{WriteFailed, StartWrite, Written}
 use Rattle.page_model.specs.Core.{Core, is_dirty}
 use Rattle.page_model.specs.Residents.{is_in}
-use Rattle.page_model.specs.Setups.{has_page, regions}
+use Rattle.page_model.specs.Setups.{has_page}
 use Rattle.serial_pager.specs.declared.fault.PageFault.{PageFault}
-use Rattle.serial_pager.specs.Seen.{StripeSeen}
-use Rattle.serial_pager.specs.Holdings.{count_at, IsStored}
-use Rattle.serial_pager.specs.Goings.{Went}
 
 abbrev pub is_flush : Cause → Bool
 is_flush Flush = true
@@ -74,36 +69,3 @@ pub record WritesUpTo (f : PageFault) (old : Core) (es : List Entry) (new : Core
   pub each : (k : Key) → is_in k (tries es) ≡ (is_dirty old k && not (is_below f.key k))
   pub clean : (k : Key) → is_below k f.key ≡ true → is_dirty new k ≡ false
   pub stays : (k : Key) → is_below k f.key ≡ false → is_dirty new k ≡ is_dirty old k
-
--- behind these entries a page is clean, unless a write of its region failed among them
-abbrev pub LeavesClean : List Entry → Core → Type 0
-LeavesClean es new = (k : Key) → list_any (is_failed_write_of k.region) es ≡ false → is_dirty new k ≡ false
-
--- a stripe wrote its dirty pages: by writes for a flush alone, of which one failed or none did
-pub record WroteBack {J : Type 0} (owner : ℕ) (has_noted : J → History Entry → Type 0) (failed : Bool) (old new : StripeSeen J) : Type 0 where
-  pub entries : List Entry
-  pub pass : list_all flushes entries ≡ true
-  pub fails : list_any is_failed_write entries ≡ failed
-  pub went : Went owner has_noted entries old new
-
--- and each dirty page once, so that only a failed write leaves a page of its region dirty
-pub record WroteEach {J : Type 0} (owner : ℕ) (has_noted : J → History Entry → Type 0) (failed : Bool) (old new : StripeSeen J) : Type 0 where
-  pub back : WroteBack owner has_noted failed old new
-  pub once : TriesDirty old.core back.entries
-  pub clean : LeavesClean back.entries new.core
-
--- the region's lane counts more faults than before
-abbrev pub RoseAt : (old new : Core) → ℕ → Type 0
-RoseAt old new r = Rose (count_at old r) (count_at new r)
-
--- a region's pages are all written, or a write of one failed
-abbrev pub IsTried : (old new : Core) → ℕ → Type 0
-IsTried old new r = RoseAt old new r ⊎ IsStored new r
-
--- each region's pages are all written, or a write of one failed
-abbrev pub TriesEach : (old new : Core) → Type 0
-TriesEach old new = (r : ℕ) → r < regions old.setup → IsTried old new r
-
--- each region's pages are all written, and its lane tells what they hold
-abbrev pub StoresEach : (old new : Core) → Type 0
-StoresEach old new = (r : ℕ) → r < regions old.setup → IsStored new r

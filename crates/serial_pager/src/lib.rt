@@ -5,10 +5,10 @@
 //! protected, serve the faults that wait, make room where a read waits for a frame, and try again.
 //!
 //! Between two calls each lane is home, so that every fault that waits can be served at once or has room made (`IsAtRest` of
-//! `specs/Rests.antt`). Contracts say two things of each call. Which pages hold what, by the data alone: an access changes no
-//! page but the one that is stored to, whatever was read in, written back or evicted on the way. And which entries were made,
-//! in a form from which it follows that the stripe stands for its history and that the journal noted it. Only the store
-//! may make an access fail: a fault names the page and the count of the lane, and nothing of the access was done.
+//! `specs/Rests.antt`). Contracts say of each call which entries it made, in a form from which it follows that the stripe stands
+//! for its history and that the journal noted it. What pages hold, which of them are dirty and what the lanes count follows from
+//! these entries, and no clause says it again. Only the store may make an access fail: a fault names the page and the count of the
+//! lane, and no entry of the access was made.
 //!
 //! `SerialStripe` is one stripe with its journal; `SerialPager` is all stripes of a buffer, whose contracts speak of pages
 //! whatever stripe they are in.

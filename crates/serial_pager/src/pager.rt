@@ -3,14 +3,13 @@
 //! What must stay true when this file is changed: stripe s of the list was made as stripe s of the layout, with the shapes of
 //! all regions; and each piece makes at most 2^16 entries, so that no stripe comes to 2^62 of them (`specs/InsideSound.antt`).
 ghost use Rattle.std.specs.Prelude.{◌≡◌, ◌≤◌, ◌+◌, ℕ, true, [], ◌++◌, length, map, reverse, slice_get, Some, vec_len, vec_capacity, IfOk, IfErr};
-ghost use Rattle.serial_pager.specs.Pagers.{rows_by, rows_of, CanOpen, IsOpened, AreRowsOf, TellsKept};
+ghost use Rattle.serial_pager.specs.Pagers.{rows_by, rows_of, CanOpen, IsOpened, AreRowsOf};
 ghost use Rattle.serial_pager.specs.Rests.{IsAtRest};
 ghost use Rattle.serial_pager.specs.InsideSound.{HandsBack};
 
 mod calls;
 mod walks;
 
-use crate::laws::model_laws;
 use crate::stripe::SerialStripe;
 use page_base::{Layout, List, RegionShape};
 use page_model::Journal;
@@ -156,14 +155,11 @@ impl<S: Store, J: Journal> SerialPager<S, J> {
         })
     }
 
-    /// Ends the pager. The lanes come back as the stripes have them and tell of each page what they told, with the journals. It
-    /// takes no memory.
+    /// Ends the pager. The lanes come back as the stripes have them, with the journals. It takes no memory.
     pub fn into_parts(self) -> (LaneSet<S>, List<J>)
         ensures lanes { AreRowsOf self (rows_of S.seen result.0) }
-        ensures told { TellsKept self (rows_of S.seen result.0) }
         ensures journals { result.1.items ≡ map (λ x. x.journal) self.stripes }
     {
-        model_laws();
         let SerialPager {
             stripes,
             scratch: _,

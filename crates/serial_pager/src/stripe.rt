@@ -2,11 +2,9 @@
 //!
 //! What must stay true when this file is changed: each event of the stripe is noted in the journal, in order, as made by
 //! owner 0.
-ghost use Rattle.std.specs.Prelude.{◌≡◌, ℕ, ◌<◌, false, length};
-ghost use Rattle.page_base.specs.declared.keys.Key.{Key};
+ghost use Rattle.std.specs.Prelude.{◌≡◌, ℕ, false, length};
 ghost use Rattle.page_model.specs.Core.{is_closing};
-ghost use Rattle.page_model.specs.Setups.{regions, base_of, first_count};
-ghost use Rattle.serial_pager.specs.Holdings.{held, owes, count_at};
+ghost use Rattle.page_model.specs.Setups.{regions};
 ghost use Rattle.serial_pager.specs.Rests.{IsAtRest, IsFresh};
 ghost use Rattle.serial_pager.specs.Returned.{AreHere};
 ghost use Rattle.stripe_core.specs.Standing.{AreHomeLanes};
@@ -37,16 +35,13 @@ impl<S: Store, J: Journal> Model for SerialStripe<S, J> {
 }
 
 impl<S: Store, J: Journal> SerialStripe<S, J> {
-    /// Takes over a stripe that has just been made. Nothing has to be written, and each page holds what its lane tells.
+    /// Takes over a stripe that has just been made. No region closes.
     pub fn new(stripe: Stripe<S>, journal: J) -> SerialStripe<S, J>
         requires fresh { IsFresh stripe }
         ensures core { result.core ≡ stripe }
         ensures journal { result.journal ≡ journal }
         ensures rest { IsAtRest result.core }
         ensures open_ { (r : ℕ) → is_closing result.core r ≡ false }
-        ensures owes { (k : Key) → owes result.core k ≡ false }
-        ensures held { (k : Key) → held result.core k ≡ base_of result.core.setup k }
-        ensures counts { (r : ℕ) → count_at result.core r ≡ first_count result.core.setup r }
     {
         SerialStripe { stripe, journal }
     }

@@ -1,15 +1,16 @@
-//! The calls of a pager that go over all its stripes: flushing, and unmapping a region.
-ghost use Rattle.std.specs.Prelude.{◌≡◌, ◌≤◌, ◌<◌, ◌+◌, ◌^◌, true, false, length, Some, slice_get, OnOk, IfErr};
+//! The calls of a pager that go over all its stripes: flushing, unmapping a region, and unmapping all.
+ghost use Rattle.std.specs.Prelude.{◌≡◌, ◌≤◌, ◌<◌, ◌+◌, ◌*◌, ◌^◌, true, length, OnOk, IfErr};
 ghost use Rattle.std.specs.List.{list_all};
-ghost use Rattle.page_base.specs.declared.limits.TheConstants.{MOST_STRIPES};
+ghost use Rattle.page_base.specs.declared.limits.TheConstants.{MOST_REGIONS, MOST_STRIPES};
 ghost use Rattle.page_model.specs.Core as core;
-ghost use Rattle.page_model.specs.Setups.{regions};
 ghost use Rattle.serial_pager.specs.Goings.{EachDid, OneFailed};
 ghost use Rattle.serial_pager.specs.InsideSound.{MayFlushEach, GoesEach, HasRegionEach, all_made};
+ghost use Rattle.serial_pager.specs.InsideUnmappings.{write_fault};
 ghost use Rattle.serial_pager.specs.Pagers.{IsSame, ClosesOnly, IsWithin, FlushFails, UnmapsEach, EndsUnmap, journals_made, has_key, stripe_at, closes_at};
 ghost use Rattle.serial_pager.specs.Pagers as pagers;
 ghost use Rattle.serial_pager.specs.Rests.{ClosesSame};
 ghost use Rattle.serial_pager.specs.Unmappings.{Unmaps, FailsToUnmap, ClosesOne};
+ghost use Rattle.serial_pager.specs.UnmapsAll.{ClosesMore, UnmapsAll, fault_in, first_of};
 ghost use Rattle.serial_pager.specs.Writings.{WritesAll, WritesUpTo};
 
 use crate::fault::{PageFault, UnmapError};
@@ -27,7 +28,7 @@ fn flush_stripes<S: Store, J: Journal>(
 ) -> Result<(), PageFault>
     requires each { MayFlushEach (length scratch.old) stripes.old.items }
     ensures count { length stripes.new.items ≡ length stripes.old.items }
-    ensures goes { GoesEach ClosesSame stripes.old.items stripes.new.items }
+    ensures goes { GoesEach MOST_STRIPES ClosesSame stripes.old.items stripes.new.items }
     ensures made { all_made J.made_with stripes.new.items ≡ all_made J.made_with stripes.old.items }
     ensures ok { OnOk result (EachDid 0 J.has_noted WritesAll stripes.old.items stripes.new.items) }
     ensures err { IfErr result (λ f. OneFailed 0 J.has_noted WritesAll (WritesUpTo f)
@@ -51,7 +52,7 @@ fn unmap_stripes<S: Store, J: Journal>(
     requires each { MayFlushEach (length scratch.old) stripes.old.items }
     requires region { HasRegionEach region stripes.old.items }
     ensures count { length stripes.new.items ≡ length stripes.old.items }
-    ensures goes { GoesEach (ClosesOne region) stripes.old.items stripes.new.items }
+    ensures goes { GoesEach MOST_STRIPES (ClosesOne region) stripes.old.items stripes.new.items }
     ensures made { all_made J.made_with stripes.new.items ≡ all_made J.made_with stripes.old.items }
     ensures ok { OnOk result (EachDid 0 J.has_noted (Unmaps region) stripes.old.items stripes.new.items) }
     ensures err { IfErr result (λ f. OneFailed 0 J.has_noted (Unmaps region) (FailsToUnmap region f)
@@ -79,7 +80,28 @@ fn all_unmapped<S: Store, J: Journal>(stripes: &Vec<SerialStripe<S, J>>, region:
     true
 }
 
+/// The first fault of an answer and of the unmapping behind it.
+fn first_fault(first: Result<(), PageFault>, next: Result<(), UnmapError>) -> Result<(), PageFault>
+    ensures exact { fault_in result ≡ first_of (fault_in first) (write_fault next) }
+{
+    match (first, next) {
+        (Err(fault), _) => Err(fault),
+        (Ok(()), Err(UnmapError::Fault(fault))) => Err(fault),
+        (Ok(()), _) => Ok(()),
+    }
+}
+
 impl<S: Store, J: Journal> SerialPager<S, J> {
+    /// How many regions there are.
+    fn regions(&self) -> u16
+        ensures exact { result ≡ length self.now.shapes }
+        ensures few { result ≤ MOST_REGIONS }
+        ensures within { IsWithin self.now }
+    {
+        model_laws();
+        self.config.shapes.len() as u16
+    }
+
     /// Whether the region is unmapped in every stripe.
     pub fn is_gone(&self, region: u16) -> bool
         requires region { region < length self.now.shapes }
@@ -136,5 +158,22 @@ impl<S: Store, J: Journal> SerialPager<S, J> {
             Ok(()) => Ok(()),
             Err(fault) => Err(UnmapError::Fault(fault)),
         }
+    }
+
+    /// Unmaps every region, in order of number. A failed write ends the unmapping of its region, and the next region's begins; the
+    /// first fault is the answer. Regions that are unmapped are passed over.
+    pub fn unmap_all(&mut self) -> Result<(), PageFault>
+        requires few { self.old.spent + MOST_STRIPES * MOST_REGIONS ≤ 2 ^ 44 }
+        ensures same { ClosesMore self.old self.new }
+        ensures made { journals_made J.made_with self.new ≡ journals_made J.made_with self.old }
+        ensures spent { self.new.spent ≡ self.old.spent + MOST_STRIPES * length self.old.shapes }
+        ensures within { IsWithin self.new }
+        ensures unmapped { UnmapsAll 0 J.has_noted (fault_in result) self.old self.new }
+    {
+        let mut answer = Ok(());
+        for region in 0..self.regions() {
+            answer = first_fault(answer, self.unmap(region));
+        }
+        answer
     }
 }

@@ -1,16 +1,12 @@
 //! Loads and stores of a part of one page, with the page faults that they make.
-ghost use Rattle.std.specs.Prelude.{◌≡◌, ◌+◌, ◌≤◌, ◌^◌, ◌<◌, [], ◌∷◌, true, false, length, OnOk, OnErr, IfErr};
-ghost use Rattle.page_base.specs.declared.keys.Key.{Key};
+ghost use Rattle.std.specs.Prelude.{◌≡◌, ◌+◌, ◌≤◌, ◌^◌, ◌<◌, [], ◌∷◌, true, false, length, OnOk, IfErr};
 ghost use Rattle.page_model.specs.declared.entry.Entry.TheVariants as entry;
 ghost use Rattle.page_model.specs.Events.{InPage};
 ghost use Rattle.page_model.specs.Core.{is_closing, is_present};
 ghost use Rattle.page_model.specs.Setups.{is_writable};
-ghost use Rattle.page_model.specs.Steps as step;
-ghost use Rattle.stripe_core.specs.Answers.{GivesBytes};
-ghost use Rattle.serial_pager.specs.Accesses.{serves, is_read, NamesCount, Loads, LoadFails, Stores, StoreFails};
+ghost use Rattle.serial_pager.specs.Accesses.{serves, is_read, is_for_store, AccessFails, Loads, Stores};
 ghost use Rattle.serial_pager.specs.Goings.{Went};
 ghost use Rattle.serial_pager.specs.InsideGoings.{WentBy};
-ghost use Rattle.serial_pager.specs.Holdings.{held, owes, owes_with, is_for_store, AreBytesAt, stored_over, CountsGrow, HoldsSame, HoldsOthers};
 ghost use Rattle.serial_pager.specs.Seen.{fixed_of};
 ghost use Rattle.serial_pager.specs.Rests.{ClosesSame, IsAtRest};
 ghost use Rattle.serial_pager.specs.InsideServices.{Raises, is_shut, why_shut};
@@ -25,7 +21,7 @@ use stripe_core::Look;
 
 impl<S: Store, J: Journal> SerialStripe<S, J> {
     /// Reads a part of a page into `buf`, from byte `place` of the page on, by way of one scratch page. After a fault of the
-    /// store nothing was read.
+    /// store no load was made.
     pub fn load(
         &mut self,
         scratch: &mut [u8],
@@ -42,18 +38,8 @@ impl<S: Store, J: Journal> SerialStripe<S, J> {
         ensures fixed { fixed_of J.made_with self.new ≡ fixed_of J.made_with self.old }
         ensures few { self.new.core.events ≤ self.old.core.events + 2 ^ 16 }
         ensures closes { ClosesSame self.old.core self.new.core }
-
-        // what the pages hold
-        ensures bytes { OnOk result (AreBytesAt (held self.old.core key) place buf.new) }
-        ensures untouched { OnErr result (buf.new ≡ buf.old) }
-        ensures held { HoldsSame self.old.core self.new.core }
-        ensures owes { (j : Key) → owes self.new.core j ≡ true → owes self.old.core j ≡ true }
-
-        // the entries, and the store's faults
         ensures ok { OnOk result (Loads 0 J.has_noted key place buf.new self.old self.new) }
-        ensures err { IfErr result (LoadFails 0 J.has_noted key self.old self.new) }
-        ensures fault { IfErr result (λ f. NamesCount self.old.core self.new.core f) }
-        ensures counts { CountsGrow self.old.core self.new.core }
+        ensures err { IfErr result (AccessFails 0 J.has_noted key is_read self.old self.new) }
     {
         model_laws();
         while !self.try_load(key, place, buf) {
@@ -66,7 +52,7 @@ impl<S: Store, J: Journal> SerialStripe<S, J> {
     }
 
     /// Writes `bytes` over a part of a page, from byte `place` of the page on, by way of one scratch page. After a fault of the
-    /// store nothing was written.
+    /// store no store was made.
     pub fn store(
         &mut self,
         scratch: &mut [u8],
@@ -84,18 +70,8 @@ impl<S: Store, J: Journal> SerialStripe<S, J> {
         ensures fixed { fixed_of J.made_with self.new ≡ fixed_of J.made_with self.old }
         ensures few { self.new.core.events ≤ self.old.core.events + 2 ^ 16 }
         ensures closes { ClosesSame self.old.core self.new.core }
-
-        // what the pages hold
-        ensures bytes { OnOk result (held self.new.core key ≡ stored_over (held self.old.core key) place bytes.now) }
-        ensures others { OnOk result (HoldsOthers key self.old.core self.new.core) }
-        ensures untouched { OnErr result (HoldsSame self.old.core self.new.core) }
-        ensures owes { (j : Key) → owes self.new.core j ≡ true → owes_with self.old.core key j ≡ true }
-
-        // the entries, and the store's faults
         ensures ok { OnOk result (Stores 0 J.has_noted key place bytes.now self.old self.new) }
-        ensures err { IfErr result (StoreFails 0 J.has_noted key self.old self.new) }
-        ensures fault { IfErr result (λ f. NamesCount self.old.core self.new.core f) }
-        ensures counts { CountsGrow self.old.core self.new.core }
+        ensures err { IfErr result (AccessFails 0 J.has_noted key is_for_store self.old self.new) }
     {
         model_laws();
         while !self.try_store(key, place, bytes) {
@@ -115,10 +91,7 @@ impl<S: Store, J: Journal> SerialStripe<S, J> {
         requires in_page { InPage self.old.core.setup key place (length buf.old) }
         ensures rest { IsAtRest self.new.core }
         ensures made { J.made_with self.new.journal ≡ J.made_with self.old.journal }
-        ensures step { result ≡ true → self.new.core ≡ step.load self.old.core }
-        ensures bytes { result ≡ true → GivesBytes self.old.core key place buf.new }
         ensures went { result ≡ true → Went 0 J.has_noted (entry.Load key place buf.new ∷ []) self.old self.new }
-        ensures untouched { result ≡ false → buf.new ≡ buf.old }
         ensures raises { result ≡ false → Raises key Why.Read self.old.core self.new.core }
         ensures missed { result ≡ false → is_present self.new.core key ≡ false }
         ensures waits { result ≡ false → 0 < length self.new.core.queue }
@@ -153,8 +126,6 @@ impl<S: Store, J: Journal> SerialStripe<S, J> {
         requires writable { is_writable self.old.core.setup key.region ≡ true }
         ensures rest { IsAtRest self.new.core }
         ensures made { J.made_with self.new.journal ≡ J.made_with self.old.journal }
-        ensures step { result ≡ true → self.new.core ≡ step.save self.old.core key place bytes.now }
-        ensures hit { result ≡ true → is_shut self.old.core key ≡ false }
         ensures went { result ≡ true → Went 0 J.has_noted (entry.Save key place bytes.now ∷ []) self.old self.new }
         ensures raises { result ≡ false → Raises key (why_shut self.old.core key) self.old.core self.new.core }
         ensures missed { result ≡ false → is_shut self.new.core key ≡ true }

@@ -12,12 +12,13 @@ ghost use Rattle.page_model.specs.Steps as step;
 ghost use Rattle.serial_pager.specs.Goings.{Went};
 ghost use Rattle.serial_pager.specs.InsideGoings.{WentServing, WentRaising, WentServingAny, ServiceFails, ReadsIn, FailsToReadIn, WritesOut, FailsToWriteOut};
 ghost use Rattle.serial_pager.specs.Rests.{IsAtRest};
-ghost use Rattle.serial_pager.specs.InsideServices.{Drops, Opens, Fills, Misses, Writes, FailsToWrite, Cleans, FailsToClean, Evicts, Raises, Serves, Faults};
+ghost use Rattle.serial_pager.specs.InsideServices.{Drops, Opens, Fills, Misses, Writes, FailsToWrite, Cleans, Evicts, Raises, Serves};
 
 use crate::fault::PageFault;
 use crate::laws::model_laws;
 use crate::stripe::SerialStripe;
 use page_base::{Key, Why};
+use page_model::events::picks_know;
 use page_model::{Cause, Journal, Next, Note};
 use store_trait::Store;
 use stripe_core::Raise;
@@ -53,7 +54,7 @@ impl<S: Store, J: Journal> SerialStripe<S, J> {
         ensures made { J.made_with self.new.journal ≡ J.made_with self.old.journal }
         ensures steps { OnOk result (Serves key self.old.core self.new.core) }
         ensures went { OnOk result (WentServing 0 J.has_noted key self.old self.new) }
-        ensures fault { IfErr result (λ f. Faults key self.old.core self.new.core f) }
+        ensures few { self.new.core.events ≤ self.old.core.events + 2 }
         ensures ends { IfErr result (ServiceFails 0 J.has_noted key self.old self.new) }
     {
         model_laws();
@@ -109,7 +110,7 @@ impl<S: Store, J: Journal> SerialStripe<S, J> {
         ensures made { J.made_with self.new.journal ≡ J.made_with self.old.journal }
         ensures steps { OnOk result (Serves key self.old.core self.new.core) }
         ensures went { OnOk result (WentServing 0 J.has_noted key self.old self.new) }
-        ensures fault { IfErr result (λ f. Faults key self.old.core self.new.core f) }
+        ensures few { self.new.core.events ≤ self.old.core.events + 2 }
         ensures ends { IfErr result (ServiceFails 0 J.has_noted key self.old self.new) }
     {
         match self.read_in(scratch) {
@@ -128,7 +129,8 @@ impl<S: Store, J: Journal> SerialStripe<S, J> {
         ensures made { J.made_with self.new.journal ≡ J.made_with self.old.journal }
         ensures steps { OnOk result (Fills self.old.core self.new.core) }
         ensures went { OnOk result (ReadsIn 0 J.has_noted self.old self.new) }
-        ensures fault { IfErr result (λ f. Misses self.old.core self.new.core f) }
+        ensures few { self.new.core.events ≤ self.old.core.events + 2 }
+        ensures fault { IfErr result (Misses self.old.core self.new.core) }
         ensures ends { IfErr result (FailsToReadIn 0 J.has_noted self.old self.new) }
     {
         model_laws();
@@ -162,10 +164,11 @@ impl<S: Store, J: Journal> SerialStripe<S, J> {
         ensures made { J.made_with self.new.journal ≡ J.made_with self.old.journal }
         ensures steps { OnOk result (Cleans self.old.core self.new.core ⊎ Evicts self.old.core self.new.core) }
         ensures went { OnOk result (WentServingAny 0 J.has_noted self.old self.new) }
-        ensures fault { IfErr result (λ f. FailsToClean self.old.core self.new.core f) }
+        ensures few { self.new.core.events ≤ self.old.core.events + 2 }
         ensures ends { IfErr result (λ f. FailsToWriteOut 0 J.has_noted f.key Pressure self.old self.new f) }
     {
         model_laws();
+        picks_know();
         match self.stripe.pick() {
             Some(pick) if pick.dirty => self.write_out(scratch, pick.key, Cause::Pressure),
             Some(pick) => {
@@ -192,7 +195,8 @@ impl<S: Store, J: Journal> SerialStripe<S, J> {
         ensures made { J.made_with self.new.journal ≡ J.made_with self.old.journal }
         ensures steps { OnOk result (Writes key self.old.core self.new.core) }
         ensures went { OnOk result (WritesOut 0 J.has_noted key why self.old self.new) }
-        ensures fault { IfErr result (λ f. FailsToWrite key self.old.core self.new.core f) }
+        ensures few { self.new.core.events ≤ self.old.core.events + 2 }
+        ensures fault { IfErr result (FailsToWrite key self.old.core self.new.core) }
         ensures ends { IfErr result (FailsToWriteOut 0 J.has_noted key why self.old self.new) }
     {
         model_laws();

@@ -1,7 +1,7 @@
 use Rattle.std.proofs.Common.{◌≡◌, [], arith, rules}
 use Rattle.std.specs.Prelude.{vec_len}
 use Rattle.std.proofs.lemmas.Grind.{common_steps}
-use Rattle.serial_pager.proofs.Unmade.{apart_none, apart_more, apart_all, apart_noted, rest_last, home_lanes, none_left}
+use Rattle.serial_pager.proofs.Opening.{apart_none, apart_more, apart_all, apart_noted, rest_last, home_lanes, none_left}
 use Rattle.serial_pager.proofs.pager.unmade.Goals as goal
 
 pub stripes-init : goal.stripes-init

@@ -1,6 +1,6 @@
 use Rattle.std.proofs.Common.{◌+◌, ◌≤◌}
 use Rattle.std.specs.Prelude.{vec_len, vec_capacity}
-use Rattle.serial_pager.proofs.Unmade.{TakenApart}
+use Rattle.serial_pager.proofs.Opening.{TakenApart}
 use Rattle.serial_pager.proofs.pager.unmade.Given as goal
 
 abbrev pub decreases-stripes : goal.decreases-stripes

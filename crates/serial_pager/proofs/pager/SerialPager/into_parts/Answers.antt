@@ -1,8 +1,7 @@
 use Rattle.std.proofs.Common.{◌∙◌, ◌++◌, [], length, map, ap, arith, subst, append-nil}
 use Rattle.std.specs.Prelude.{reverse}
 use Rattle.serial_pager.specs.Pagers.{rows_by, rows_of}
-use Rattle.serial_pager.specs.InsideSound.{HandsBack, IsSound}
-use Rattle.serial_pager.proofs.Kept.{told_kept}
+use Rattle.serial_pager.specs.InsideSound.{HandsBack}
 use Rattle.serial_pager.proofs.Opening.{rows_of_stripes}
 use Rattle.serial_pager.proofs.pager.SerialPager.into_parts.Goals as goal
 
@@ -21,13 +20,6 @@ returns-clause-lanes g c =
     let rows = rows_of g.S.Store.seen c.unmade-lanes.result.lanes in
     let none : HandsBack ins.stripes.items [] rows = subst (λ rs. HandsBack ins.stripes.items rs rows) (ap (rows_by g.S.Store.seen) c.self.invariant.3) c.unmade-lanes.ensures.lanes in
     rows_of_stripes c.args.self rows (subst (λ xs. HandsBack xs [] rows) (ap (λ v. v.stripes) c.self.view_is) none)
-
-pub returns-clause-told : goal.returns-clause-told
-returns-clause-told g c =
-    let ins = c.self.inside in
-    let rows = rows_of g.S.Store.seen c.unmade-lanes.result.lanes in
-    let none : HandsBack ins.stripes.items [] rows = subst (λ rs. HandsBack ins.stripes.items rs rows) (ap (rows_by g.S.Store.seen) c.self.invariant.3) c.unmade-lanes.ensures.lanes in
-    told_kept c.model_laws.ensures c.args.self (subst IsSound c.self.view_is c.self.invariant.0) rows (rows_of_stripes c.args.self rows (subst (λ xs. HandsBack xs [] rows) (ap (λ v. v.stripes) c.self.view_is) none))
 
 pub returns-clause-journals : goal.returns-clause-journals
 returns-clause-journals g c =

@@ -1,4 +1,4 @@
-use Rattle.serial_pager.proofs.Walking.{regions_of}
+use Rattle.serial_pager.proofs.Walks.{regions_of}
 use Rattle.serial_pager.proofs.pager.SerialPager.is_gone.Goals as goal
 
 pub all_unmapped-requires : goal.all_unmapped-requires

@@ -8,8 +8,7 @@ use Rattle.stripe_core.specs.declared.config.StripeConfig.{StripeConfig}
 use Rattle.serial_pager.specs.Pagers.{rows_by, rows_of}
 use Rattle.serial_pager.specs.Sound.{seen_of}
 use Rattle.serial_pager.specs.InsideSound.{HandsBack}
-use Rattle.serial_pager.proofs.Opening.{making_more, can_next, lengths, rows_back, sound_open, opened}
-use Rattle.serial_pager.proofs.Unmade.{none_left, map_reverse, no_item}
+use Rattle.serial_pager.proofs.Opening.{making_more, can_next, lengths, rows_back, sound_open, opened, none_left, map_reverse, no_item}
 use Rattle.serial_pager.proofs.pager.SerialPager.open.Goals as goal
 
 pub making-init : goal.making-init
@@ -57,7 +56,7 @@ making-preserved g c =
     let e = c.new-in-Ok-new.ensures in
     let i = c.making.invariant in
     let more = making_more g.S.Store.seen c.args.config c.making.config rows c.args.journals.items c.requires.can c.making.stripes.items c.making.home.items c.pop.new.self.items c.making.noted.items c.pop-in-Some.new.self.items c.in-Some.own c.in-Some-pop.journal i.making c.in-Some.ensures.items
-    c.in-Some-pop.ensures.items c.new-in-Ok-new.result (e.core ∙ c.in-Ok-new.ensures.fresh) e.journal (subst (λ (d : Core). StandsFor [] d) (sym e.core) c.in-Ok-new.ensures.stands) e.rest e.open_ e.owes e.held e.counts (record c.making.config { number = c.making.config.number + 1 }) refl in
+    c.in-Some-pop.ensures.items c.new-in-Ok-new.result (e.core ∙ c.in-Ok-new.ensures.fresh) e.journal (subst (λ (d : Core). StandsFor [] d) (sym e.core) c.in-Ok-new.ensures.stands) e.rest e.open_ (record c.making.config { number = c.making.config.number + 1 }) refl in
     record {
       making = rw c.push_reserved.ensures.items more;
       stripes_room = omega (arith, i.stripes_room, c.in-Some.ensures.cases, c.push_reserved.ensures.len, c.push_reserved.ensures.capacity);

@@ -1,9 +1,7 @@
-use Rattle.std.proofs.Common.{◌≡◌, ◌⊎◌, inl, inr, length, Some, slice_get, false, true, refl, subst, sym, ap, ◌∙◌, arith, ◌<◌}
-use Rattle.std.specs.List.{list_all}
-use Rattle.std.proofs.lemmas.Bool.{false_from_ne_true}
-use Rattle.std.proofs.lemmas.Option.{slice_get_read, slice_get_within}
+use Rattle.std.proofs.Common.{sym, arith}
+use Rattle.std.proofs.lemmas.Option.{slice_get_within}
 use Rattle.page_model.specs.Core.{is_unmapped}
-use Rattle.serial_pager.proofs.Walking.{all_by_items, item_of_all}
+use Rattle.serial_pager.proofs.Walks.{all_by_items}
 use Rattle.serial_pager.proofs.pager.walks.all_unmapped.Goals as goal
 
 pub loop-stripe-init : goal.loop-stripe-init

@@ -10,41 +10,19 @@ use Rattle.serial_pager.proofs.pager.walks.unmap_stripes.Goals as goal
 pub loop-stripe-init : goal.loop-stripe-init
 loop-stripe-init g c = record { walked = walked_none g.J.Journal.has_noted (Unmaps c.args.region) (ClosesOne c.args.region) c.args.stripes.now.items; made = refl }
 
-pub unmap-requires-clause-rest : goal.unmap-requires-clause-rest
-unmap-requires-clause-rest g c =
+pub unmap-requires : goal.unmap-requires
+unmap-requires g c =
     let i = c.loop-stripe.stripe in
     let w = c.loop-stripe.invariant.walked in
     let x = c.index_mut.result.now in
-    let here : slice_get c.loop-stripe.stripes.items i ≡ Some x = slice_get_read c.loop-stripe.stripes.items (length c.loop-stripe.stripes.items) i x refl (omega (arith, w.as_many)) c.index_mut.ensures.value in
-    let at : slice_get c.args.stripes.now.items i ≡ Some x = sym (w.ahead i (omega arith)) ∙ here in
-    (c.requires.each i x at).rest
-
-pub unmap-requires-clause-few : goal.unmap-requires-clause-few
-unmap-requires-clause-few g c =
-    let i = c.loop-stripe.stripe in
-    let w = c.loop-stripe.invariant.walked in
-    let x = c.index_mut.result.now in
-    let here : slice_get c.loop-stripe.stripes.items i ≡ Some x = slice_get_read c.loop-stripe.stripes.items (length c.loop-stripe.stripes.items) i x refl (omega (arith, w.as_many)) c.index_mut.ensures.value in
-    let at : slice_get c.args.stripes.now.items i ≡ Some x = sym (w.ahead i (omega arith)) ∙ here in
-    (c.requires.each i x at).few
-
-pub unmap-requires-clause-region : goal.unmap-requires-clause-region
-unmap-requires-clause-region g c =
-    let i = c.loop-stripe.stripe in
-    let w = c.loop-stripe.invariant.walked in
-    let x = c.index_mut.result.now in
-    let here : slice_get c.loop-stripe.stripes.items i ≡ Some x = slice_get_read c.loop-stripe.stripes.items (length c.loop-stripe.stripes.items) i x refl (omega (arith, w.as_many)) c.index_mut.ensures.value in
-    let at : slice_get c.args.stripes.now.items i ≡ Some x = sym (w.ahead i (omega arith)) ∙ here in
-    (c.requires.region i x at)
-
-pub unmap-requires-clause-scratch : goal.unmap-requires-clause-scratch
-unmap-requires-clause-scratch g c =
-    let i = c.loop-stripe.stripe in
-    let w = c.loop-stripe.invariant.walked in
-    let x = c.index_mut.result.now in
-    let here : slice_get c.loop-stripe.stripes.items i ≡ Some x = slice_get_read c.loop-stripe.stripes.items (length c.loop-stripe.stripes.items) i x refl (omega (arith, w.as_many)) c.index_mut.ensures.value in
-    let at : slice_get c.args.stripes.now.items i ≡ Some x = sym (w.ahead i (omega arith)) ∙ here in
-    c.loop-stripe.auto.scratch ∙ sym (c.requires.each i x at).page_size
+    let at : slice_get c.args.stripes.now.items i ≡ Some x = sym (w.ahead i (omega arith)) ∙ slice_get_read c.loop-stripe.stripes.items (length c.loop-stripe.stripes.items) i x refl (omega (arith, w.as_many)) c.index_mut.ensures.value in
+    let may = c.requires.each i x at in
+    record {
+      rest = may.rest;
+      few = may.few;
+      scratch = c.loop-stripe.auto.scratch ∙ sym may.page_size;
+      region = c.requires.region i x at;
+    }
 
 pub loop-stripe-preserved : goal.loop-stripe-preserved
 loop-stripe-preserved g c =
@@ -52,69 +30,42 @@ loop-stripe-preserved g c =
     let w = c.loop-stripe.invariant.walked in
     let x = c.index_mut.result.now in
     let here : slice_get c.loop-stripe.stripes.items i ≡ Some x = slice_get_read c.loop-stripe.stripes.items (length c.loop-stripe.stripes.items) i x refl (omega (arith, w.as_many)) c.index_mut.ensures.value in
-    let at : slice_get c.args.stripes.now.items i ≡ Some x = sym (w.ahead i (omega arith)) ∙ here in
     let y = c.unmap.new.self in
     let e = c.unmap.ensures in
-    let goes : Goes (ClosesOne c.args.region) x y = record { setup = ap (λ f. f.setup) e.fixed; rest = e.rest; few = e.few; closes = e.closes } in
+    let goes : Goes 64 (ClosesOne c.args.region) x y = record { setup = ap (λ f. f.setup) e.fixed; rest = e.rest; few = e.few; closes = e.closes } in
     let did = c.in-Ok.ensures.ok in
     record {
       walked = walked_more g.J.Journal.has_noted (Unmaps c.args.region) (ClosesOne c.args.region) c.args.stripes.now.items c.loop-stripe.stripes.items i x y w here goes did.entries did.went did.how;
       made = map_set (λ v. g.J.Journal.made_with v.journal) c.loop-stripe.stripes.items i x y here (ap (λ f. f.journal) e.fixed) ∙ c.loop-stripe.invariant.made;
     }
 
-pub returns-in-Err-clause-count : goal.returns-in-Err-clause-count
-returns-in-Err-clause-count g c =
+pub returns-in-Err : goal.returns-in-Err
+returns-in-Err g c =
     let i = c.loop-stripe.stripe in
     let w = c.loop-stripe.invariant.walked in
+    let all = c.args.stripes.now.items in
+    let now = c.loop-stripe.stripes.items in
     let x = c.index_mut.result.now in
     let here : slice_get c.loop-stripe.stripes.items i ≡ Some x = slice_get_read c.loop-stripe.stripes.items (length c.loop-stripe.stripes.items) i x refl (omega (arith, w.as_many)) c.index_mut.ensures.value in
-    let at : slice_get c.args.stripes.now.items i ≡ Some x = sym (w.ahead i (omega arith)) ∙ here in
-    slice_set_length c.loop-stripe.stripes.items i c.unmap.new.self ∙ w.as_many
-
-pub returns-in-Err-clause-goes : goal.returns-in-Err-clause-goes
-returns-in-Err-clause-goes g c =
-    let i = c.loop-stripe.stripe in
-    let w = c.loop-stripe.invariant.walked in
-    let x = c.index_mut.result.now in
-    let here : slice_get c.loop-stripe.stripes.items i ≡ Some x = slice_get_read c.loop-stripe.stripes.items (length c.loop-stripe.stripes.items) i x refl (omega (arith, w.as_many)) c.index_mut.ensures.value in
-    let at : slice_get c.args.stripes.now.items i ≡ Some x = sym (w.ahead i (omega arith)) ∙ here in
     let y = c.unmap.new.self in
     let e = c.unmap.ensures in
-    let goes : Goes (ClosesOne c.args.region) x y = record { setup = ap (λ f. f.setup) e.fixed; rest = e.rest; few = e.few; closes = e.closes } in
+    let goes : Goes 64 (ClosesOne c.args.region) x y = record { setup = ap (λ f. f.setup) e.fixed; rest = e.rest; few = e.few; closes = e.closes } in
     let did = c.in-Err.ensures.err in
-    goes_all g.J.Journal.has_noted (Unmaps c.args.region) (ClosesOne c.args.region) c.args.stripes.now.items c.loop-stripe.stripes.items i x y w here goes did.entries did.went (λ k. record { others = λ q ne. refl; stays = λ e. e }) (λ s z f. (c.requires.each s z f).rest)
+    record {
+      count = slice_set_length now i y ∙ w.as_many;
+      goes = goes_all g.J.Journal.has_noted (Unmaps c.args.region) (ClosesOne c.args.region) all now i x y w here goes did.entries did.went (λ k. record { others = λ q ne. refl; stays = λ e. e; gone = λ q e. e }) (λ s z f. (c.requires.each s z f).rest);
+      made = map_set (λ v. g.J.Journal.made_with v.journal) now i x y here (ap (λ f. f.journal) e.fixed) ∙ c.loop-stripe.invariant.made;
+      ok = tt;
+      err = walked_fails g.J.Journal.has_noted (Unmaps c.args.region) (ClosesOne c.args.region) all now i x y w here goes did.entries did.went (FailsToUnmap c.args.region c.in-Err.fault) did.how;
+    }
 
-pub returns-in-Err-clause-made : goal.returns-in-Err-clause-made
-returns-in-Err-clause-made g c =
-    let i = c.loop-stripe.stripe in
+pub returns : goal.returns
+returns g c =
     let w = c.loop-stripe.invariant.walked in
-    let x = c.index_mut.result.now in
-    let here : slice_get c.loop-stripe.stripes.items i ≡ Some x = slice_get_read c.loop-stripe.stripes.items (length c.loop-stripe.stripes.items) i x refl (omega (arith, w.as_many)) c.index_mut.ensures.value in
-    let at : slice_get c.args.stripes.now.items i ≡ Some x = sym (w.ahead i (omega arith)) ∙ here in
-    let y = c.unmap.new.self in
-    let e = c.unmap.ensures in
-    let goes : Goes (ClosesOne c.args.region) x y = record { setup = ap (λ f. f.setup) e.fixed; rest = e.rest; few = e.few; closes = e.closes } in
-    map_set (λ v. g.J.Journal.made_with v.journal) c.loop-stripe.stripes.items i x y here (ap (λ f. f.journal) e.fixed) ∙ c.loop-stripe.invariant.made
-
-pub returns-in-Err-clause-err : goal.returns-in-Err-clause-err
-returns-in-Err-clause-err g c =
-    let i = c.loop-stripe.stripe in
-    let w = c.loop-stripe.invariant.walked in
-    let x = c.index_mut.result.now in
-    let here : slice_get c.loop-stripe.stripes.items i ≡ Some x = slice_get_read c.loop-stripe.stripes.items (length c.loop-stripe.stripes.items) i x refl (omega (arith, w.as_many)) c.index_mut.ensures.value in
-    let at : slice_get c.args.stripes.now.items i ≡ Some x = sym (w.ahead i (omega arith)) ∙ here in
-    let y = c.unmap.new.self in
-    let e = c.unmap.ensures in
-    let goes : Goes (ClosesOne c.args.region) x y = record { setup = ap (λ f. f.setup) e.fixed; rest = e.rest; few = e.few; closes = e.closes } in
-    let did = c.in-Err.ensures.err in
-    walked_fails g.J.Journal.has_noted (Unmaps c.args.region) (ClosesOne c.args.region) c.args.stripes.now.items c.loop-stripe.stripes.items i x y w here goes did.entries did.went (FailsToUnmap c.args.region c.in-Err.fault) did.how
-
-pub returns-clause-goes : goal.returns-clause-goes
-returns-clause-goes g c =
-    let w = c.loop-stripe.invariant.walked in
-    went_all g.J.Journal.has_noted (Unmaps c.args.region) (ClosesOne c.args.region) c.loop-stripe.stripe c.args.stripes.now.items c.loop-stripe.stripes.items (omega (arith, w.as_many, c.loop-stripe-test.false)) w
-
-pub returns-clause-ok : goal.returns-clause-ok
-returns-clause-ok g c =
-    let w = c.loop-stripe.invariant.walked in
-    walked_all g.J.Journal.has_noted (Unmaps c.args.region) (ClosesOne c.args.region) c.loop-stripe.stripe c.args.stripes.now.items c.loop-stripe.stripes.items (omega (arith, w.as_many, c.loop-stripe-test.false)) w
+    record {
+      count = w.as_many;
+      goes = went_all g.J.Journal.has_noted (Unmaps c.args.region) (ClosesOne c.args.region) c.loop-stripe.stripe c.args.stripes.now.items c.loop-stripe.stripes.items (omega (arith, w.as_many, c.loop-stripe-test.false)) w;
+      made = c.loop-stripe.invariant.made;
+      ok = walked_all g.J.Journal.has_noted (Unmaps c.args.region) (ClosesOne c.args.region) c.loop-stripe.stripe c.args.stripes.now.items c.loop-stripe.stripes.items (omega (arith, w.as_many, c.loop-stripe-test.false)) w;
+      err = tt;
+    }

@@ -43,20 +43,22 @@ pages-preserved g c =
       made = c.let_leave.ensures.made ∙ i.made;
     }
 
-pub returns-in-Err-clause-few : goal.returns-in-Err-clause-few
-returns-in-Err-clause-few g c =
+pub returns-in-Err : goal.returns-in-Err
+returns-in-Err g c =
     let i = c.pages.invariant in
+    let e = c.let_leave.ensures in
     let at : oldest_of c.pages.self.core c.args.region ≡ Some c.in-Some.pick = ap (λ v. oldest_of v.core c.args.region) (sym c.self.view_is) ∙ (sym c.oldest_of.ensures.exact ∙ c.in-Some.is) in
     let held : IsHeldOf c.pages.self.core c.args.region c.in-Some.pick = c.picks_know.ensures.oldest i.rest.history c.pages.self.core c.args.region c.in-Some.pick i.rest.stands at in
     let some = some_pages c.pages.self.core c.in-Some.pick.key held.present in
-    omega (arith, i.few, c.let_leave.ensures.few, some)
-
-pub returns-in-Err-clause-err : goal.returns-in-Err-clause-err
-returns-in-Err-clause-err g c =
-    let i = c.pages.invariant in
-    let at : oldest_of c.pages.self.core c.args.region ≡ Some c.in-Some.pick = ap (λ v. oldest_of v.core c.args.region) (sym c.self.view_is) ∙ (sym c.oldest_of.ensures.exact ∙ c.in-Some.is) in
-    let held : IsHeldOf c.pages.self.core c.args.region c.in-Some.pick = c.picks_know.ensures.oldest i.rest.history c.pages.self.core c.args.region c.in-Some.pick i.rest.stands at in
-    fails_to_leave g.J.Journal.has_noted c.args.region c.in-Some.pick.key c.in-Err.fault c.args.self.now c.pages.self c.let_leave.new.self held.region c.in-Err.ensures.key i.went c.in-Err.ensures.ends
+    record {
+      rest = e.rest;
+      made = e.made ∙ i.made;
+      queue = e.queue ∙ i.queue;
+      few = omega (arith, i.few, e.few, some);
+      ok = tt;
+      none = tt;
+      err = fails_to_leave g.J.Journal.has_noted c.args.region c.in-Some.pick.key c.in-Err.fault c.args.self.now c.pages.self c.let_leave.new.self held.region c.in-Err.ensures.key i.went c.in-Err.ensures.ends;
+    }
 
 pub returns-clause-few : goal.returns-clause-few
 returns-clause-few g c = let i = c.pages.invariant in omega (arith, i.few)

@@ -1,7 +1,4 @@
-use Rattle.std.proofs.Common.{ap, arith, length, refl, sym, ◌+◌, ◌<◌, ◌∙◌, ◌≡◌}
-use Rattle.page_model.specs.Core.{Core, next}
-use Rattle.page_model.specs.declared.entry.Entry.TheVariants as entry
-use Rattle.page_model.specs.declared.seen.Next.TheVariants as serve
+use Rattle.std.proofs.Common.{arith, refl, ◌∙◌}
 use Rattle.serial_pager.specs.Unmappings.{drops}
 use Rattle.serial_pager.proofs.Clearing.{drops_less}
 use Rattle.serial_pager.proofs.Goes.{by_none, by_these, by_twice}

@@ -4,9 +4,9 @@ use Rattle.serial_pager.proofs.stripe.SerialStripe.flush.Given as goal
 
 abbrev pub invariant-pages : goal.invariant-pages
 invariant-pages g l = record {
-  tried : Tried g.J.Journal.has_noted l.after false l.initial.self l.self;
+  tried : Tried g.J.Journal.has_noted l.last false l.initial.self l.self;
   made : g.J.Journal.made_with l.self.journal ≡ g.J.Journal.made_with l.initial.self.journal;
 }
 
 abbrev pub decreases-pages : goal.decreases-pages
-decreases-pages g l = left l.self.core l.after
+decreases-pages g l = left l.self.core l.last

@@ -4,7 +4,7 @@ use Rattle.page_model.specs.Core.{Core, Home, RegionSeen}
 use Rattle.page_model.specs.Readers.{IsHere}
 use Rattle.page_model.specs.Stands.{HomeLane, StandsFor}
 use Rattle.serial_pager.specs.Rests.{IsAtRest}
-use Rattle.serial_pager.proofs.Fresh.{got_map, place_there}
+use Rattle.serial_pager.proofs.Opening.{got_map, place_there}
 use Rattle.serial_pager.proofs.stripe.SerialStripe.into_parts.Goals as goal
 
 pub into_lanes-requires : goal.into_lanes-requires

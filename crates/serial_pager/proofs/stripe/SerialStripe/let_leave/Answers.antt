@@ -1,4 +1,4 @@
-use Rattle.std.proofs.Common.{[], ◌∷◌, ap, arith, length, refl, subst, sym, ◌+◌, ◌<◌, ◌∙◌, ◌≡◌, true}
+use Rattle.std.proofs.Common.{[], ◌∷◌, ap, arith, ◌+◌, ◌∙◌, ◌≡◌}
 use Rattle.page_model.specs.Core.{Core}
 use Rattle.page_model.specs.declared.entry.Cause.TheVariants.{Unmap}
 use Rattle.page_model.specs.declared.entry.Entry.TheVariants as entry
@@ -9,19 +9,16 @@ use Rattle.serial_pager.proofs.Rooms.{idle_page}
 use Rattle.serial_pager.proofs.stripe.SerialStripe.let_leave.Goals as goal
 
 pub evict-requires-clause-page : goal.evict-requires-clause-page
-evict-requires-clause-page g c =
-    let rest = c.make_clean.ensures.rest in
-    c.model_laws.ensures.knows.present rest.history c.make_clean.new.self.core c.args.key rest.stands c.in-Ok.ensures.ready.present
+evict-requires-clause-page g c = let rest = c.make_clean.ensures.rest in c.model_laws.ensures.knows.present rest.history c.make_clean.new.self.core c.args.key rest.stands c.in-Ok.ensures.ready.present
 
 pub evict-requires-clause-can : goal.evict-requires-clause-can
 evict-requires-clause-can g c =
     let rest = c.make_clean.ensures.rest in
     let ready = c.in-Ok.ensures.ready in
-    let page = c.model_laws.ensures.knows.present rest.history c.make_clean.new.self.core c.args.key rest.stands ready.present in
     record {
       present = ready.present;
       clean = ready.clean;
-      not_writing = idle_page c.model_laws.ensures c.make_clean.new.self.core rest c.args.key page;
+      not_writing = idle_page c.model_laws.ensures c.make_clean.new.self.core rest c.args.key (evict-requires-clause-page g c);
       fits = leaving_closes c.model_laws.ensures g.J.Journal.has_noted c.args.key.region c.args.self.now c.make_clean.new.self c.requires.rest c.in-Ok.ensures.went c.args.key.region ∙ c.requires.closing;
     }
 

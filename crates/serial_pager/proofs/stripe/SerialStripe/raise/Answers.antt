@@ -9,9 +9,9 @@ use Rattle.serial_pager.specs.Accesses.{serves}
 use Rattle.serial_pager.specs.InsideGoings.{WentBy}
 use Rattle.serial_pager.specs.Rests.{IsAtRest}
 use Rattle.serial_pager.proofs.Goes.{by_none, by_these, seen, went_once}
-use Rattle.serial_pager.proofs.Keys.{same_self}
+use Rattle.serial_pager.proofs.Pages.{same_self}
 use Rattle.serial_pager.proofs.Rests.{rests_alike}
-use Rattle.serial_pager.proofs.Asks.{unraised_waits}
+use Rattle.serial_pager.proofs.Queues.{unraised_waits}
 use Rattle.serial_pager.proofs.stripe.SerialStripe.raise.Goals as goal
 
 pub returns-in-Raised-clause-rest : goal.returns-in-Raised-clause-rest

@@ -1,7 +1,7 @@
 use Rattle.std.proofs.Common.{ap, subst, sym, arith, length, ◌≡◌, ◌∙◌, ◌∷◌, ◌*◌, ◌/◌, ℕ}
 use Rattle.histories.specs.Histories.{History}
 use Rattle.page_base.specs.declared.keys.Key.{Key}
-use Rattle.page_base.specs.Lanes.{LaneSeen, Rose}
+use Rattle.page_base.specs.Lanes.{LaneSeen}
 use Rattle.store_trait.specs.Lanes.{IsPlace, IsPageOf}
 use Rattle.page_model.specs.declared.entry.Entry.{Entry}
 use Rattle.page_model.specs.declared.entry.Entry.TheVariants as entry
@@ -13,7 +13,7 @@ use Rattle.serial_pager.specs.Rests.{IsAtRest}
 use Rattle.serial_pager.specs.InsideServices.{Fills, Misses}
 use Rattle.serial_pager.proofs.Goes.{went_trip}
 use Rattle.serial_pager.proofs.Places.{place_of, page_there, read_holds}
-use Rattle.serial_pager.proofs.Returns.{makes_fills, makes_misses, rests_filled, rests_missed}
+use Rattle.serial_pager.proofs.Rests.{makes_fills, makes_misses, rests_filled, rests_missed}
 use Rattle.serial_pager.proofs.stripe.SerialStripe.read_in.Goals as goal
 
 pub read_from_store-requires : goal.read_from_store-requires
@@ -52,24 +52,8 @@ filled-requires-clause-holds g c = λ kept there.
 pub returns-in-Ok-clause-steps : goal.returns-in-Ok-clause-steps
 returns-in-Ok-clause-steps g c =
     let start = c.start_read-trip.ensures in
-    let later = c.in-Ok.ensures.cause.later in
-    let taken : LaneSeen = c.start_read-trip.result.start.taken in
-    let same = ap (λ (l : LaneSeen). l.count) (c.lane.ensures.value ∙ start.lane) in
-    let fills : Fills c.self.inside.stripe c.filled.new.self = makes_fills c.self.inside.stripe c.start_read-trip.new.self c.filled.new.self c.start_read-trip.result.start.key taken _ start.here c.read_from_store.new.buf start.next (omega (arith, later, same)) start.step c.filled.ensures.step in
+    let fills : Fills c.self.inside.stripe c.filled.new.self = makes_fills c.self.inside.stripe c.start_read-trip.new.self c.filled.new.self c.start_read-trip.result.start.key _ c.read_from_store.new.buf start.next start.step c.filled.ensures.step in
     subst (λ x. Fills x c.filled.new.self) (ap (λ v. v.core) c.self.view_is) fills
-
-pub returns-in-Ok-clause-rest : goal.returns-in-Ok-clause-rest
-returns-in-Ok-clause-rest g c =
-    let start = c.start_read-trip.ensures in
-    let rest : IsAtRest c.self.inside.stripe = subst IsAtRest (ap (λ v. v.core) (sym c.self.view_is)) c.requires.rest in
-    let key : Key = c.start_read-trip.result.start.key in
-    let h : History Entry = (0, entry.StartRead key) ∷ rest.history in
-    let open_ = subst (λ (s : Setup). IsOpenRead s h 0 c.start_read-trip.result.start) (sym start.fixed) (start.open_read rest.history 0 rest.stands) in
-    let st : StandsFor ((0, entry.Filled key) ∷ h) c.filled.new.self = c.filled.ensures.stands h 0 (start.stands rest.history 0 rest.stands) open_ in
-    let later = c.in-Ok.ensures.cause.later in
-    let same = ap (λ (l : LaneSeen). l.count) (c.lane.ensures.value ∙ start.lane) in
-    let fills : Fills c.self.inside.stripe c.filled.new.self = makes_fills c.self.inside.stripe c.start_read-trip.new.self c.filled.new.self key c.start_read-trip.result.start.taken _ start.here c.read_from_store.new.buf start.next (omega (arith, later, same)) start.step c.filled.ensures.step in
-    rests_filled c.model_laws.ensures c.self.inside.stripe c.filled.new.self rest _ st fills
 
 pub returns-in-Ok-clause-went : goal.returns-in-Ok-clause-went
 returns-in-Ok-clause-went g c =
@@ -87,27 +71,8 @@ returns-in-Ok-clause-went g c =
 pub returns-in-Err-clause-fault : goal.returns-in-Err-clause-fault
 returns-in-Err-clause-fault g c =
     let start = c.start_read-trip.ensures in
-    let rose = c.in-Err.ensures.cause.failed in
-    let later = c.in-Err.ensures.cause.later in
-    let same = ap (λ (l : LaneSeen). l.count) (c.lane.ensures.value ∙ start.lane) in
-    let risen : Rose c.start_read-trip.result.start.taken.count (g.S.Store.seen c.read_from_store.new.self).count = subst (λ (l : LaneSeen). Rose l.count (g.S.Store.seen c.read_from_store.new.self).count) (c.lane.ensures.value ∙ start.lane) rose in
-    let misses : Misses c.self.inside.stripe c.read_failed.new.self (record { key = c.key-key.result; faults = c.faults-faults.result }) = makes_misses c.self.inside.stripe c.start_read-trip.new.self c.read_failed.new.self c.start_read-trip.result.start.key c.start_read-trip.result.start.taken _ start.here _ c.key-key.ensures c.faults-faults.ensures start.next (omega (arith, later, same)) risen start.step c.read_failed.ensures.step in
+    let misses : Misses c.self.inside.stripe c.read_failed.new.self (record { key = c.key-key.result; faults = c.faults-faults.result }) = makes_misses c.self.inside.stripe c.start_read-trip.new.self c.read_failed.new.self c.start_read-trip.result.start.key _ _ c.key-key.ensures start.next start.step c.read_failed.ensures.step in
     subst (λ x. Misses x c.read_failed.new.self (record { key = c.key-key.result; faults = c.faults-faults.result })) (ap (λ v. v.core) c.self.view_is) misses
-
-pub returns-in-Err-clause-rest : goal.returns-in-Err-clause-rest
-returns-in-Err-clause-rest g c =
-    let start = c.start_read-trip.ensures in
-    let rest : IsAtRest c.self.inside.stripe = subst IsAtRest (ap (λ v. v.core) (sym c.self.view_is)) c.requires.rest in
-    let key : Key = c.start_read-trip.result.start.key in
-    let h : History Entry = (0, entry.StartRead key) ∷ rest.history in
-    let open_ = subst (λ (s : Setup). IsOpenRead s h 0 c.start_read-trip.result.start) (sym start.fixed) (start.open_read rest.history 0 rest.stands) in
-    let st = c.read_failed.ensures.stands h 0 (start.stands rest.history 0 rest.stands) open_ in
-    let rose = c.in-Err.ensures.cause.failed in
-    let later = c.in-Err.ensures.cause.later in
-    let same = ap (λ (l : LaneSeen). l.count) (c.lane.ensures.value ∙ start.lane) in
-    let risen : Rose c.start_read-trip.result.start.taken.count (g.S.Store.seen c.read_from_store.new.self).count = subst (λ (l : LaneSeen). Rose l.count (g.S.Store.seen c.read_from_store.new.self).count) (c.lane.ensures.value ∙ start.lane) rose in
-    let misses : Misses c.self.inside.stripe c.read_failed.new.self (record { key = c.key-key.result; faults = c.faults-faults.result }) = makes_misses c.self.inside.stripe c.start_read-trip.new.self c.read_failed.new.self key c.start_read-trip.result.start.taken _ start.here _ c.key-key.ensures c.faults-faults.ensures start.next (omega (arith, later, same)) risen start.step c.read_failed.ensures.step in
-    rests_missed c.model_laws.ensures c.self.inside.stripe c.read_failed.new.self rest _ st _ misses
 
 pub returns-in-Err-clause-ends : goal.returns-in-Err-clause-ends
 returns-in-Err-clause-ends g c =
@@ -120,3 +85,15 @@ returns-in-Err-clause-ends g c =
     went_trip g.J.Journal.has_noted (entry.StartRead c.key-key.result) (entry.ReadFailed c.key-key.result c.faults-faults.result) c.self.inside.stripe c.start_read-trip.new.self c.read_failed.new.self c.self.inside.journal c.note.new.self c.note-in-Err.new.self c.args.self.now c.self.view_is
     (c.read_failed.ensures.fixed ∙ start.fixed) (ap (λ (x : Core). x.events) start.step) (ap (λ (x : Core). x.events) c.read_failed.ensures.step)
     stands c.note.ensures.noted c.note-in-Err.ensures.noted
+
+pub returns-in-Ok-clause-rest : goal.returns-in-Ok-clause-rest
+returns-in-Ok-clause-rest g c = rests_filled c.model_laws.ensures c.args.self.now.core c.filled.new.self c.requires.rest _ ((returns-in-Ok-clause-went g c).1.stands c.requires.rest.history c.requires.rest.stands) (returns-in-Ok-clause-steps g c)
+
+pub returns-in-Err-clause-rest : goal.returns-in-Err-clause-rest
+returns-in-Err-clause-rest g c = rests_missed c.model_laws.ensures c.args.self.now.core c.read_failed.new.self c.requires.rest _ ((returns-in-Err-clause-ends g c).stands c.requires.rest.history c.requires.rest.stands) _ (returns-in-Err-clause-fault g c)
+
+pub returns-in-Ok-clause-few : goal.returns-in-Ok-clause-few
+returns-in-Ok-clause-few g c = let n = (returns-in-Ok-clause-went g c).1.events in omega (arith, n)
+
+pub returns-in-Err-clause-few : goal.returns-in-Err-clause-few
+returns-in-Err-clause-few g c = let n = (returns-in-Err-clause-ends g c).events in omega (arith, n)

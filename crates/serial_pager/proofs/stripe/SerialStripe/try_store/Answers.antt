@@ -1,8 +1,7 @@
 use Rattle.std.proofs.Common.{ap, refl, subst, sym, ◌∙◌, ◌≡◌}
 use Rattle.page_model.specs.declared.entry.Entry.TheVariants as entry
 use Rattle.page_model.specs.Core.{Core}
-use Rattle.serial_pager.specs.Accesses.{serves}
-use Rattle.serial_pager.specs.Holdings.{is_for_store}
+use Rattle.serial_pager.specs.Accesses.{is_for_store, serves}
 use Rattle.serial_pager.specs.InsideGoings.{WentBy}
 use Rattle.serial_pager.specs.Rests.{IsAtRest}
 use Rattle.serial_pager.proofs.Goes.{seen, went_once}

@@ -1,9 +1,8 @@
-use Rattle.std.proofs.Common.{[], ap, arith, inl, length, refl, subst, sym, ◌+◌, ◌*◌, ◌<◌, ◌≤◌, ◌∙◌, ◌≡◌, false, true}
+use Rattle.std.proofs.Common.{[], ap, arith, inl, refl, sym, ◌∙◌, ◌≡◌, false, true}
 use Rattle.page_model.specs.Core.{is_unmapped}
-use Rattle.page_model.specs.Setups.{regions}
 use Rattle.serial_pager.proofs.Clearing.{can_unmap, closing_still, failed_closes_one, failed_now, few_pages, unmapped_closes, unmapped_now}
 use Rattle.serial_pager.proofs.Goes.{went_nowhere}
-use Rattle.serial_pager.proofs.Waits.{few_wait}
+use Rattle.serial_pager.proofs.Queues.{few_wait}
 use Rattle.serial_pager.proofs.stripe.SerialStripe.unmap.Goals as goal
 
 pub returns-then-is_unmapped-clause-ok : goal.returns-then-is_unmapped-clause-ok
@@ -33,27 +32,22 @@ clear-requires-clause-scratch g c = c.requires.scratch ∙ sym (ap (λ u. u.page
 pub clear-requires-clause-closing : goal.clear-requires-clause-closing
 clear-requires-clause-closing g c = closing_still c.model_laws.ensures g.J.Journal.has_noted c.args.region c.args.self.now c.begin_closing.new.self c.drop_stale.new.self c.requires.rest c.requires.region c.begin_closing.ensures.went c.drop_stale.ensures.went
 
-pub returns-in-Err-clause-few : goal.returns-in-Err-clause-few
-returns-in-Err-clause-few g c =
+pub returns-in-Err : goal.returns-in-Err
+returns-in-Err g c =
     let wait = few_wait c.model_laws.ensures c.begin_closing.new.self.core c.begin_closing.ensures.rest in
     let pages = few_pages c.model_laws.ensures c.drop_stale.new.self.core c.drop_stale.ensures.rest in
     let more = c.begin_closing.ensures.few in
-    omega (arith, wait, pages, more, c.drop_stale.ensures.few, c.clear.ensures.few)
-
-pub returns-in-Err-clause-err : goal.returns-in-Err-clause-err
-returns-in-Err-clause-err g c =
     let mapped : is_unmapped c.args.self.now.core c.args.region ≡ false = ap (λ v. is_unmapped v.core c.args.region) (sym c.self.view_is) ∙ (sym c.is_unmapped.ensures.exact ∙ c.if-is_unmapped.false) in
-    failed_now c.model_laws.ensures g.J.Journal.has_noted c.args.region c.args.self.now c.begin_closing.new.self c.drop_stale.new.self c.requires.rest c.requires.region c.begin_closing.ensures.went c.drop_stale.ensures.went c.clear.new.self c.in-Err.fault c.in-Err.ensures.err mapped
-
-pub returns-in-Err-clause-closes : goal.returns-in-Err-clause-closes
-returns-in-Err-clause-closes g c =
-    failed_closes_one c.model_laws.ensures g.J.Journal.has_noted c.args.region c.args.self.now c.begin_closing.new.self c.drop_stale.new.self c.requires.rest c.requires.region c.begin_closing.ensures.went c.drop_stale.ensures.went c.clear.new.self c.in-Err.fault c.in-Err.ensures.err
-
-pub returns-in-Err-clause-fixed : goal.returns-in-Err-clause-fixed
-returns-in-Err-clause-fixed g c =
     let setup = c.in-Err.ensures.err.went.setup ∙ (c.drop_stale.ensures.went.went.setup ∙ c.begin_closing.ensures.went.setup) in
     let made = c.clear.ensures.made ∙ (c.drop_stale.ensures.made ∙ c.begin_closing.ensures.made) in
-    λ i. record { setup = setup i; journal = made i }
+    record {
+      rest = c.clear.ensures.rest;
+      fixed = λ i. record { setup = setup i; journal = made i };
+      few = omega (arith, wait, pages, more, c.drop_stale.ensures.few, c.clear.ensures.few);
+      closes = failed_closes_one c.model_laws.ensures g.J.Journal.has_noted c.args.region c.args.self.now c.begin_closing.new.self c.drop_stale.new.self c.requires.rest c.requires.region c.begin_closing.ensures.went c.drop_stale.ensures.went c.clear.new.self c.in-Err.fault c.in-Err.ensures.err;
+      ok = tt;
+      err = failed_now c.model_laws.ensures g.J.Journal.has_noted c.args.region c.args.self.now c.begin_closing.new.self c.drop_stale.new.self c.requires.rest c.requires.region c.begin_closing.ensures.went c.drop_stale.ensures.went c.clear.new.self c.in-Err.fault c.in-Err.ensures.err mapped;
+    }
 
 pub end_closing-requires-clause-few : goal.end_closing-requires-clause-few
 end_closing-requires-clause-few g c =
@@ -69,29 +63,21 @@ end_closing-requires-clause-can g c =
     can_unmap c.model_laws.ensures g.J.Journal.has_noted c.args.region c.args.self.now c.begin_closing.new.self c.drop_stale.new.self c.requires.rest c.requires.region c.begin_closing.ensures.went c.drop_stale.ensures.went c.clear.new.self three.entries three.pass three.went
     mapped c.clear.ensures.rest c.drop_stale.ensures.none c.clear.ensures.queue c.in-Ok.ensures.none
 
-pub returns-clause-few : goal.returns-clause-few
-returns-clause-few g c =
+pub returns : goal.returns
+returns g c =
     let wait = few_wait c.model_laws.ensures c.begin_closing.new.self.core c.begin_closing.ensures.rest in
     let pages = few_pages c.model_laws.ensures c.drop_stale.new.self.core c.drop_stale.ensures.rest in
     let more = c.begin_closing.ensures.few in
     let last = c.end_closing.ensures.went.events in
-    omega (arith, wait, pages, more, last, c.drop_stale.ensures.few, c.clear.ensures.few)
-
-pub returns-clause-ok : goal.returns-clause-ok
-returns-clause-ok g c =
     let mapped : is_unmapped c.args.self.now.core c.args.region ≡ false = ap (λ v. is_unmapped v.core c.args.region) (sym c.self.view_is) ∙ (sym c.is_unmapped.ensures.exact ∙ c.if-is_unmapped.false) in
     let three = c.in-Ok.ensures.ok in
-    unmapped_now c.model_laws.ensures g.J.Journal.has_noted c.args.region c.args.self.now c.begin_closing.new.self c.drop_stale.new.self c.requires.rest c.requires.region c.begin_closing.ensures.went c.drop_stale.ensures.went c.clear.new.self three.entries three.pass three.went
-    c.end_closing.new.self c.end_closing.ensures.went mapped
-
-pub returns-clause-closes : goal.returns-clause-closes
-returns-clause-closes g c =
-    let three = c.in-Ok.ensures.ok in
-    unmapped_closes c.model_laws.ensures g.J.Journal.has_noted c.args.region c.args.self.now c.begin_closing.new.self c.drop_stale.new.self c.requires.rest c.requires.region c.begin_closing.ensures.went c.drop_stale.ensures.went c.clear.new.self three.entries three.pass three.went
-    c.end_closing.new.self c.end_closing.ensures.went
-
-pub returns-clause-fixed : goal.returns-clause-fixed
-returns-clause-fixed g c =
-    let setup = c.end_closing.ensures.went.setup ∙ (c.in-Ok.ensures.ok.went.setup ∙ (c.drop_stale.ensures.went.went.setup ∙ c.begin_closing.ensures.went.setup)) in
+    let setup = c.end_closing.ensures.went.setup ∙ (three.went.setup ∙ (c.drop_stale.ensures.went.went.setup ∙ c.begin_closing.ensures.went.setup)) in
     let made = c.end_closing.ensures.made ∙ (c.clear.ensures.made ∙ (c.drop_stale.ensures.made ∙ c.begin_closing.ensures.made)) in
-    λ i. record { setup = setup i; journal = made i }
+    record {
+      rest = c.end_closing.ensures.rest;
+      fixed = λ i. record { setup = setup i; journal = made i };
+      few = omega (arith, wait, pages, more, last, c.drop_stale.ensures.few, c.clear.ensures.few);
+      closes = unmapped_closes c.model_laws.ensures g.J.Journal.has_noted c.args.region c.args.self.now c.begin_closing.new.self c.drop_stale.new.self c.requires.rest c.requires.region c.begin_closing.ensures.went c.drop_stale.ensures.went c.clear.new.self three.entries three.pass three.went c.end_closing.new.self c.end_closing.ensures.went;
+      ok = unmapped_now c.model_laws.ensures g.J.Journal.has_noted c.args.region c.args.self.now c.begin_closing.new.self c.drop_stale.new.self c.requires.rest c.requires.region c.begin_closing.ensures.went c.drop_stale.ensures.went c.clear.new.self three.entries three.pass three.went c.end_closing.new.self c.end_closing.ensures.went mapped;
+      err = tt;
+    }

@@ -1,8 +1,8 @@
 use Rattle.std.proofs.Common.{ap, subst, sym, arith, length, refl, true, ◌≡◌, ◌∙◌, ◌∷◌, ◌*◌, ◌/◌, ℕ}
 use Rattle.histories.specs.Histories.{History}
 use Rattle.page_base.specs.declared.keys.Key.{Key}
-use Rattle.page_base.specs.Lanes.{LaneSeen, Rose, told_at}
-use Rattle.store_trait.specs.Lanes.{IsPlace, ChangesOnly, retold}
+use Rattle.page_base.specs.Lanes.{LaneSeen}
+use Rattle.store_trait.specs.Lanes.{IsPlace}
 use Rattle.page_model.specs.declared.entry.Entry.{Entry}
 use Rattle.page_model.specs.declared.entry.Entry.TheVariants as entry
 use Rattle.page_model.specs.Core.{Core}
@@ -11,13 +11,13 @@ use Rattle.page_model.specs.Readers.{IsHere, LaneHas}
 use Rattle.page_model.specs.Setups.{Setup, has_page}
 use Rattle.page_model.specs.Stands.{StandsFor}
 use Rattle.page_model.specs.Steps as step
-use Rattle.page_model.specs.Trips.{IsOpenWrite}
+use Rattle.page_model.specs.Trips.{IsOpenWrite, OtherPages, WithPage}
 use Rattle.serial_pager.specs.Rests.{IsAtRest}
 use Rattle.serial_pager.specs.InsideServices.{Writes, FailsToWrite}
 use Rattle.serial_pager.proofs.Goes.{went_trip}
 use Rattle.serial_pager.proofs.ModelLaws.{Laws}
 use Rattle.serial_pager.proofs.Places.{place_of, page_there, write_stands, write_leaves}
-use Rattle.serial_pager.proofs.Returns.{makes_writes, makes_unwritten, rests_written, rests_unwritten}
+use Rattle.serial_pager.proofs.Rests.{makes_writes, makes_unwritten, rests_written, rests_unwritten}
 use Rattle.serial_pager.proofs.stripe.SerialStripe.write_out.Goals as goal
 
 -- the lane that is sent out has the page
@@ -64,47 +64,34 @@ pub written-requires-clause-wrote : goal.written-requires-clause-wrote
 written-requires-clause-wrote g c =
     let start = c.start_write-trip.ensures in
     let now : Core = c.args.self.now.core in
-    let taken : LaneSeen = c.start_write-trip.result.start.taken in
     let lane : LaneSeen = g.S.Store.seen c.write_to_store.new.self in
     let bytes = c.start_write-trip.new.scratch in
-    let off : ℕ = c.from.result * length bytes in
-    let same = c.lane.ensures.value ∙ start.lane in
-    let here : IsHere now c.args.key.region taken = subst (λ (x : Core). IsHere x c.args.key.region taken) (ap (λ v. v.core) c.self.view_is) start.here in
+    let p : ℕ = c.start_write-trip.result.start.key.page in
+    let here : IsHere now c.args.key.region c.start_write-trip.result.start.taken = subst (λ (x : Core). IsHere x c.args.key.region c.start_write-trip.result.start.taken) (ap (λ v. v.core) c.self.view_is) start.here in
     let size : length bytes ≡ now.setup.page_size = omega (arith, c.start_write-trip.auto.scratch, c.requires.scratch) in
-    let page = page_written c.model_laws.ensures now c.args.key taken (length bytes) c.from.result c.requires.rest c.requires.page here size c.from.ensures ∙ ap (λ (k : Key). k.page) (sym start.key) in
-    let written = subst (λ (l : LaneSeen). told_at lane.told (off / l.origin.page_size) ≡ retold (told_at l.told (off / l.origin.page_size)) bytes) same c.in-Ok.ensures.written in
-    let others = subst (λ (l : LaneSeen). ChangesOnly (off / l.origin.page_size) l.told lane.told) same c.in-Ok.ensures.others in
-    let origin = subst (λ (l : LaneSeen). lane.origin ≡ l.origin) same c.in-Ok.ensures.origin in
-    let later = c.in-Ok.ensures.cause.later in
-    let count = ap (λ (l : LaneSeen). l.count) same in
-    write_stands taken lane c.start_write-trip.result.start.key.page (off / taken.origin.page_size) bytes page origin written others (omega (arith, later, count))
+    let page = page_written c.model_laws.ensures now c.args.key c.start_write-trip.result.start.taken (length bytes) c.from.result c.requires.rest c.requires.page here size c.from.ensures ∙ ap (λ (k : Key). k.page) (sym start.key) in
+    let same = c.lane.ensures.value ∙ start.lane in
+    let e = c.in-Ok.ensures in
+    subst (λ (l : LaneSeen). WithPage p bytes l lane) same (write_stands _ lane p _ bytes (subst (λ (l : LaneSeen). c.from.result * length bytes / l.origin.page_size ≡ p) (sym same) page) e.origin e.written e.others e.cause.later)
 
 pub write_failed-requires-clause-others : goal.write_failed-requires-clause-others
 write_failed-requires-clause-others g c =
     let start = c.start_write-trip.ensures in
     let now : Core = c.args.self.now.core in
-    let taken : LaneSeen = c.start_write-trip.result.start.taken in
     let lane : LaneSeen = g.S.Store.seen c.write_to_store.new.self in
     let bytes = c.start_write-trip.new.scratch in
-    let off : ℕ = c.from.result * length bytes in
-    let same = c.lane.ensures.value ∙ start.lane in
-    let here : IsHere now c.args.key.region taken = subst (λ (x : Core). IsHere x c.args.key.region taken) (ap (λ v. v.core) c.self.view_is) start.here in
+    let p : ℕ = c.start_write-trip.result.start.key.page in
+    let here : IsHere now c.args.key.region c.start_write-trip.result.start.taken = subst (λ (x : Core). IsHere x c.args.key.region c.start_write-trip.result.start.taken) (ap (λ v. v.core) c.self.view_is) start.here in
     let size : length bytes ≡ now.setup.page_size = omega (arith, c.start_write-trip.auto.scratch, c.requires.scratch) in
-    let page = page_written c.model_laws.ensures now c.args.key taken (length bytes) c.from.result c.requires.rest c.requires.page here size c.from.ensures ∙ ap (λ (k : Key). k.page) (sym start.key) in
-    let others = subst (λ (l : LaneSeen). ChangesOnly (off / l.origin.page_size) l.told lane.told) same c.in-Err.ensures.others in
-    let origin = subst (λ (l : LaneSeen). lane.origin ≡ l.origin) same c.in-Err.ensures.origin in
-    let later = c.in-Err.ensures.cause.later in
-    let count = ap (λ (l : LaneSeen). l.count) same in
-    write_leaves taken lane c.start_write-trip.result.start.key.page (off / taken.origin.page_size) page origin others (omega (arith, later, count))
+    let page = page_written c.model_laws.ensures now c.args.key c.start_write-trip.result.start.taken (length bytes) c.from.result c.requires.rest c.requires.page here size c.from.ensures ∙ ap (λ (k : Key). k.page) (sym start.key) in
+    let same = c.lane.ensures.value ∙ start.lane in
+    let e = c.in-Err.ensures in
+    subst (λ (l : LaneSeen). OtherPages p l lane) same (write_leaves _ lane p _ (subst (λ (l : LaneSeen). c.from.result * length bytes / l.origin.page_size ≡ p) (sym same) page) e.origin e.others e.cause.later)
 
 pub returns-in-Ok-clause-steps : goal.returns-in-Ok-clause-steps
 returns-in-Ok-clause-steps g c =
     let start = c.start_write-trip.ensures in
-    let taken : LaneSeen = c.start_write-trip.result.start.taken in
-    let here : IsHere c.self.inside.stripe c.args.key.region taken = start.here in
-    let later = c.in-Ok.ensures.cause.later in
-    let count = ap (λ (l : LaneSeen). l.count) (c.lane.ensures.value ∙ start.lane) in
-    let writes : Writes c.args.key c.self.inside.stripe c.written.new.self = makes_writes c.self.inside.stripe c.start_write-trip.new.self c.written.new.self c.args.key taken (g.S.Store.seen c.write_to_store.new.self) here (omega (arith, later, count)) start.step
+    let writes : Writes c.args.key c.self.inside.stripe c.written.new.self = makes_writes c.self.inside.stripe c.start_write-trip.new.self c.written.new.self c.args.key (g.S.Store.seen c.write_to_store.new.self) start.step
     (subst (λ (k : Key). c.written.new.self ≡ step.written c.start_write-trip.new.self k (g.S.Store.seen c.write_to_store.new.self)) start.key c.written.ensures.step) in
     subst (λ x. Writes c.args.key x c.written.new.self) (ap (λ v. v.core) c.self.view_is) writes
 
@@ -128,13 +115,8 @@ returns-in-Ok-clause-went g c =
 pub returns-in-Err-clause-fault : goal.returns-in-Err-clause-fault
 returns-in-Err-clause-fault g c =
     let start = c.start_write-trip.ensures in
-    let taken : LaneSeen = c.start_write-trip.result.start.taken in
     let lane : LaneSeen = g.S.Store.seen c.write_to_store.new.self in
-    let later = c.in-Err.ensures.cause.later in
-    let count = ap (λ (l : LaneSeen). l.count) (c.lane.ensures.value ∙ start.lane) in
-    let rose = c.in-Err.ensures.cause.failed in
-    let risen : Rose taken.count lane.count = subst (λ (l : LaneSeen). Rose l.count lane.count) (c.lane.ensures.value ∙ start.lane) rose in
-    let fails : FailsToWrite c.args.key c.self.inside.stripe c.write_failed.new.self (record { key = c.args.key; faults = c.faults-faults.result }) = makes_unwritten c.self.inside.stripe c.start_write-trip.new.self c.write_failed.new.self c.args.key taken lane start.here _ refl c.faults-faults.ensures (omega (arith, later, count)) risen start.step
+    let fails : FailsToWrite c.args.key c.self.inside.stripe c.write_failed.new.self (record { key = c.args.key; faults = c.faults-faults.result }) = makes_unwritten c.self.inside.stripe c.start_write-trip.new.self c.write_failed.new.self c.args.key lane _ refl start.step
     (subst (λ (k : Key). c.write_failed.new.self ≡ step.write_failed c.start_write-trip.new.self k lane) start.key c.write_failed.ensures.step) in
     subst (λ x. FailsToWrite c.args.key x c.write_failed.new.self (record { key = c.args.key; faults = c.faults-faults.result })) (ap (λ v. v.core) c.self.view_is) fails
 
@@ -158,3 +140,9 @@ pub returns-in-Err-clause-rest : goal.returns-in-Err-clause-rest
 returns-in-Err-clause-rest g c =
     let went = returns-in-Err-clause-ends g c in
     rests_unwritten c.model_laws.ensures c.args.self.now.core c.write_failed.new.self c.requires.rest _ (went.stands c.requires.rest.history c.requires.rest.stands) c.args.key c.requires.can.home _ (returns-in-Err-clause-fault g c)
+
+pub returns-in-Ok-clause-few : goal.returns-in-Ok-clause-few
+returns-in-Ok-clause-few g c = let n = (returns-in-Ok-clause-went g c).2.events in omega (arith, n)
+
+pub returns-in-Err-clause-few : goal.returns-in-Err-clause-few
+returns-in-Err-clause-few g c = let n = (returns-in-Err-clause-ends g c).events in omega (arith, n)
