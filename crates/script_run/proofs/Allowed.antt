@@ -1,6 +1,6 @@
 -- What serves a piece of a line, the line may make.
-use Rattle.std.proofs.Common.{◌≡◌, ℕ, ◌+◌, ◌*◌, ◌&&◌, ◌==◌, Bool, nat_lt, true, List, length, refl, ap, ◌∙◌, arith}
-use Rattle.std.proofs.lemmas.Bool.{and_from, and_parts, eq-eqb, eqb-true, lt-ltb}
+use Rattle.std.proofs.Common.{◌≡◌, ℕ, ◌+◌, ◌*◌, ◌&&◌, ◌||◌, ◌==◌, Bool, nat_lt, true, List, length, refl, ap, ◌∙◌, arith}
+use Rattle.std.proofs.lemmas.Bool.{and_from, and_parts, or_left, eq-eqb, eqb-true, lt-ltb}
 use Rattle.page_base.specs.declared.keys.Key.{Key}
 use Rattle.page_base.specs.declared.keys.Piece.{Piece}
 use Rattle.page_base.specs.declared.keys.Why.{Why}
@@ -10,10 +10,9 @@ use Rattle.page_model.specs.declared.entry.Cause.{Cause}
 use Rattle.page_model.specs.declared.entry.Cause.TheVariants.{Pressure, Flush, Unmap}
 use Rattle.page_model.specs.declared.entry.Entry.TheVariants.{Raised, StartRead, Filled, ReadFailed, Opened, Dropped, StartWrite, Evicted, Written}
 use Rattle.region_table.specs.Covers.{IsNext}
-use Rattle.serial_pager.specs.Accesses.{is_read, is_pressure}
-use Rattle.serial_pager.specs.Holdings.{is_for_store}
-use Rattle.workload_text.specs.Line.{Line, load_line, store_line}
-use Rattle.script_run.specs.LineEntries.{is_in_range, makes_faults, may_make, raises, writes_for}
+use Rattle.serial_pager.specs.Accesses.{is_for_store, is_pressure, is_read}
+use Rattle.workload_text.specs.Line.{Line, load_line, store_line, unmap_line}
+use Rattle.script_run.specs.LineEntries.{is_in_range, makes_faults, may_drop, may_make, raises, writes_for, evicts_for, is_flush_line, is_unmap_of}
 use Rattle.script_run.proofs.Makings.{ServesBy}
 
 -- the page of the piece that is next has a byte of the range
@@ -33,10 +32,14 @@ same_key a b e =
 
 -- a line that has page faults served
 module _ (z : ℕ) (l : Line) (served : makes_faults l ≡ true) where
-  for_room : (why : Cause) → is_pressure why ≡ true → writes_for l why ≡ true
-  for_room Pressure h = served
-  for_room Flush h = absurd (cc)
-  for_room Unmap h = absurd (cc)
+  for_room : (why : Cause) (q : ℕ) → is_pressure why ≡ true → (writes_for l why q ≡ true) × (evicts_for l why q ≡ true)
+  for_room Pressure q h = (served, served)
+  for_room Flush q h = absurd (cc)
+  for_room Unmap q h = absurd (cc)
+
+  drops : (l : Line) → makes_faults l ≡ true → may_drop l ≡ true
+  drops (unmap_line r) h = refl
+  drops l h = h
 
   serves_by : (k : Key) (reasons : Why → Bool) → ((why : Why) → reasons why ≡ true → raises z l k why ≡ true) → ServesBy (may_make z l) k reasons
   serves_by k reasons own (Raised j why) h =
@@ -46,10 +49,10 @@ module _ (z : ℕ) (l : Line) (served : makes_faults l ≡ true) where
   serves_by k reasons own (Filled j) h = served
   serves_by k reasons own (ReadFailed j n) h = served
   serves_by k reasons own (Opened j) h = served
-  serves_by k reasons own (Dropped j) h = served
-  serves_by k reasons own (StartWrite j why) h = for_room why h
-  serves_by k reasons own (Evicted j why) h = for_room why h
-  serves_by k reasons own (Written j at bytes) h = served
+  serves_by k reasons own (Dropped j) h = drops l served
+  serves_by k reasons own (StartWrite j why) h = (for_room why j.region h).0
+  serves_by k reasons own (Evicted j why) h = (for_room why j.region h).1
+  serves_by k reasons own (Written j at bytes) h = or_left (makes_faults l) (is_flush_line l || is_unmap_of l j.region) served
   serves_by k reasons own e h = absurd (cc)
 
 pub load_serves : (z r off len : ℕ) (k : Key) → is_in_range z r off len k ≡ true → ServesBy (may_make z (load_line r off len)) k is_read

@@ -1,7 +1,7 @@
 -- What the lines of a serial run made, as what they did.
 use Rattle.std.proofs.Common.{◌≡◌, ◌⊎◌, inl, inr, ℕ, ◌+◌, ◌≤◌, Bool, true, false, cond, List, [], ◌∷◌, ◌++◌, length, take, drop, reverse, filter, refl, sym, ap, ap₂, subst, ◌∙◌, arith, rules, append-nil}
 use Rattle.std.specs.List.{list_all}
-use Rattle.std.proofs.lemmas.Bool.{and_parts, and_from}
+use Rattle.std.proofs.lemmas.Bool.{and_from}
 use Rattle.std.proofs.lemmas.List.{places, same_lists, take_all, drop-take}
 use Rattle.std.proofs.lemmas.List.Elements.{filter-append}
 use Rattle.std.proofs.lemmas.List.Sums.{sum_by-cons}
@@ -17,13 +17,12 @@ use Rattle.page_model.specs.Owned.{is_owners, OneOwner, joined_accesses}
 use Rattle.page_model.specs.Pieces.{bytes_in, saves}
 use Rattle.region_table.specs.Covers.{PiecesCover}
 use Rattle.region_table.specs.Pieces.{pieces_of}
-use Rattle.serial_pager.specs.Writings.{flushes}
-use Rattle.workload_text.specs.Line.{Line, load_line, store_line}
+use Rattle.workload_text.specs.Line.{Line, load_line, store_line, flush_line, unmap_line}
 use Rattle.flat_lines.specs.Spreads.{Spread, stripe_in}
 use Rattle.flat_lines.specs.Lines.{is_other, LineDid, more_made, AllDid}
 use Rattle.flat_lines.specs.Flat.{OwnersAreFlat}
-use Rattle.script_run.specs.Replies.{Reply, loaded, ok, fault}
-use Rattle.script_run.specs.LineEntries.{Accesses, Failure, Makes, AllMake}
+use Rattle.script_run.specs.Replies.{Reply, loaded, ok, unmapped, fault}
+use Rattle.script_run.specs.LineEntries.{LoadsBefore, SavesBefore, Accesses, Failure, Makes, AllMake}
 use Rattle.script_run.specs.FlatJournals.{IsPartOf, ArePartsOf, JournalsAreFlat}
 
 saves_cut : (ps : List Piece) (bytes : List ℕ) (n : ℕ) → bytes_in ps ≡ n → saves ps bytes ≡ saves ps (take n bytes)
@@ -44,17 +43,26 @@ record DidOne (t : Spread) (l : Line) (a : Reply) (es : List Entry) : Type 0 whe
   is : IsPartOf l a part
   did : LineDid t.page_size l part es
 
+-- a line that ended at a piece
+record LoadedPart (t : Spread) (r off len done : ℕ) (es : List Entry) : Type 0 where
+  part : List ℕ
+  is : length part ≡ done
+  did : LineDid t.page_size (load_line r off len) part es
+
+loads_part : (t : Spread) (r off len done : ℕ) (es : List Entry) → LoadsBefore t.page_size r off len done es → LoadedPart t r off len done es
+loads_part t r off len done es acc = record { part = acc.1; is = acc.3; did = (acc.0, (acc.2.next ∷ acc.2.rest, acc.2.all_are), acc.3 ∙ sym acc.2.bytes, acc.4) }
+
+saved_part : (t : Spread) (r off : ℕ) (bytes : List ℕ) (done : ℕ) (es : List Entry) → SavesBefore t.page_size r off bytes done es → LineDid t.page_size (store_line r off bytes) (take done bytes) es
+saved_part t r off bytes done es acc = (acc.0, (acc.1.next ∷ acc.1.rest, acc.1.all_are), ap (λ n. take n bytes) (sym acc.1.bytes), acc.2 ∙ saves_cut acc.0 bytes done acc.1.bytes)
+
 did_one : PiecesCover → (t : Spread) (l : Line) (a : Reply) (es : List Entry) → 1 ≤ t.page_size → Accesses t.page_size l a es → DidOne t l a es
 did_one cover t (load_line r off len) (loaded bytes) es some acc = record {
   part = bytes;
   is = (refl, acc.0);
   did = (pieces_of t.page_size r off len, ([], sym (append-nil (pieces_of t.page_size r off len))), acc.0 ∙ sym (cover t.page_size r off len some).lengths, acc.1);
 }
-did_one cover t (load_line r off len) (fault k count done) es some acc = record {
-  part = acc.1;
-  is = acc.3;
-  did = (acc.0, (acc.2.next ∷ acc.2.rest, acc.2.all_are), acc.3 ∙ sym acc.2.bytes, acc.4);
-}
+did_one cover t (load_line r off len) (unmapped done) es some acc = let x = loads_part t r off len done es acc in record { part = x.part; is = x.is; did = x.did }
+did_one cover t (load_line r off len) (fault k count done) es some acc = let x = loads_part t r off len done es acc in record { part = x.part; is = x.is; did = x.did }
 did_one cover t (load_line r off len) a es some acc = record { part = []; is = refl; did = ([], (pieces_of t.page_size r off len, refl), refl, acc) }
 did_one cover t (store_line r off bytes) ok es some acc =
     let covers = cover t.page_size r off (length bytes) some in
@@ -63,11 +71,8 @@ did_one cover t (store_line r off bytes) ok es some acc =
       is = refl;
       did = (pieces_of t.page_size r off (length bytes), ([], sym (append-nil (pieces_of t.page_size r off (length bytes)))), sym (take_all (bytes_in (pieces_of t.page_size r off (length bytes))) bytes (omega (arith, covers.lengths))), acc);
     }
-did_one cover t (store_line r off bytes) (fault k count done) es some acc = record {
-  part = take done bytes;
-  is = refl;
-  did = (acc.0, (acc.1.next ∷ acc.1.rest, acc.1.all_are), ap (λ n. take n bytes) (sym acc.1.bytes), acc.2 ∙ saves_cut acc.0 bytes done acc.1.bytes);
-}
+did_one cover t (store_line r off bytes) (unmapped done) es some acc = record { part = take done bytes; is = refl; did = saved_part t r off bytes done es acc }
+did_one cover t (store_line r off bytes) (fault k count done) es some acc = record { part = take done bytes; is = refl; did = saved_part t r off bytes done es acc }
 did_one cover t (store_line r off bytes) a es some acc = record { part = []; is = refl; did = ([], (pieces_of t.page_size r off (length bytes), refl), refl, acc) }
 did_one cover t l a es some acc = record { part = []; is = refl; did = ap (list_all is_other) acc }
 
@@ -83,6 +88,8 @@ IsFailure es = (es ≡ []) ⊎ ((e : Entry) × (es ≡ e ∷ []) × (is_fault e 
 pub failure_is : (t : Spread) (l : Line) (a : Reply) (es : List Entry) → Failure t.page_size l a es → IsFailure es
 failure_is t (load_line r off len) (fault k count done) es f = inr (f.0, f.1, elim f.2 [ inl x ↦ ap is_fault x.1 | inr x ↦ ap is_fault x ])
 failure_is t (store_line r off bytes) (fault k count done) es f = inr (f.0, f.1, elim f.2 [ inl x ↦ ap is_fault x.1 | inr x ↦ ap is_fault x ])
+failure_is t flush_line (fault k count done) es f = inr (WriteFailed k count, f, refl)
+failure_is t (unmap_line r) (fault k count done) es f = inr (WriteFailed k count, f, refl)
 failure_is t l a es f = inl f
 
 -- a failure is no access
@@ -96,7 +103,7 @@ no_access stripe es s (inr x) = ap (λ xs. filter is_access (of_stripe stripe s 
     one e false f = refl
     one e b f = absurd cc
 
-made_accesses : (t : Spread) (l : Line) (a : Reply) (made behind : ℕ → List Entry) (m : Makes t l a made) (s : ℕ) → filter is_access (made s ++ behind s) ≡ more_made t m.accesses (accesses_in behind) s
+made_accesses : (t : Spread) (l : Line) (a : Reply) (made behind : ℕ → List Entry) (m : Makes t l a behind made) (s : ℕ) → filter is_access (made s ++ behind s) ≡ more_made t m.accesses (accesses_in behind) s
 made_accesses t l a made behind m s =
     filter-append is_access (made s) (behind s)
     ∙ ap (λ xs. xs ++ filter is_access (behind s))
@@ -138,29 +145,17 @@ own_one (e ∷ es) = and_from (is_owners (λ k. 0) (0, e)) (list_all (is_owners 
     one (entry.Save k place bytes) = refl
     one e = refl
 
-flushes_none : (es : List Entry) → list_all flushes es ≡ true → filter is_access es ≡ []
-flushes_none [] all = refl
-flushes_none (e ∷ es) all =
-    let both = and_parts (flushes e) (list_all flushes es) all in
-    ap (λ b. cond b (e ∷ filter is_access es) (filter is_access es)) (one e both.0) ∙ flushes_none es both.1
-  where
-    one : (e : Entry) → flushes e ≡ true → is_access e ≡ false
-    one (StartWrite k why) f = refl
-    one (Written k at bytes) f = refl
-    one (WriteFailed k n) f = refl
-    one e f = absurd cc
-
 -- all accesses are the lines'
-all_theirs : CallsOfOne Entry → (last lines : List Entry) → list_all flushes last ≡ true → joined_accesses (by 0 (last ++ lines)) (0 ∷ []) ≡ filter is_access lines
-all_theirs calls last lines f =
+all_theirs : CallsOfOne Entry → (last lines : List Entry) → filter is_access last ≡ [] → joined_accesses (by 0 (last ++ lines)) (0 ∷ []) ≡ filter is_access lines
+all_theirs calls last lines none =
     append-nil (filter is_access (calls_of 0 (by 0 (last ++ lines))))
     ∙ ap (filter is_access) (calls.own 0 (last ++ lines))
     ∙ filter-append is_access last lines
-    ∙ ap (λ xs. xs ++ filter is_access lines) (flushes_none last f)
+    ∙ ap (λ xs. xs ++ filter is_access lines) none
 
 pub journals_are_flat : PiecesCover → CallsOfOne Entry → OwnersAreFlat → JournalsAreFlat
-journals_are_flat cover calls law w lines replies by_lines last regions fine inside make flush legal start =
-    let d = did_all cover w.spread lines replies (λ s. []) by_lines (λ s. joined_accesses (by 0 (last s ++ by_lines s)) (0 ∷ [])) fine.some_byte (λ s. all_theirs calls (last s) (by_lines s) (flush s)) make in
+journals_are_flat cover calls law w lines replies by_lines last regions fine inside make none legal start =
+    let d = did_all cover w.spread lines replies (λ s. []) by_lines (λ s. joined_accesses (by 0 (last s ++ by_lines s)) (0 ∷ [])) fine.some_byte (λ s. all_theirs calls (last s) (by_lines s) (none s)) make in
     let flat = law w (λ s. by 0 (last s ++ by_lines s)) (λ s k. 0) (λ s. 0 ∷ []) lines d.parts regions fine inside
     (λ s lt. record { legal = legal s lt; one = own_one (last s ++ by_lines s); apart = (refl, tt) }) d.did start in
     record { parts = d.parts; parts_are = d.are; flat = flat.0; hold = flat.1 }

@@ -1,25 +1,26 @@
 -- What a serial run shows, by what its journals have noted.
-use Rattle.std.proofs.Common.{◌≡◌, inl, inr, ℕ, ◌+◌, ◌*◌, ◌/◌, ◌%◌, ◌<◌, ◌≤◌, Bool, true, false, List, [], ◌∷◌, ◌++◌, map, length, get_or, Option, Some, is_some, slice_get, refl, sym, ap, ◌∙◌, arith}
-use Rattle.std.specs.List.{list_any}
+use Rattle.std.proofs.Common.{◌≡◌, ℕ, ◌+◌, ◌*◌, ◌/◌, ◌%◌, ◌<◌, Bool, true, false, List, [], ◌∷◌, ◌++◌, map, length, get_or, Option, Some, is_some, slice_get, refl, sym, ap, ◌∙◌, arith}
+use Rattle.std.specs.List.{filter}
 use Rattle.std.specs.Option.{unwrap_or}
-use Rattle.std.proofs.lemmas.Bool.{cases_Bool}
-use Rattle.std.proofs.lemmas.List.{length-map, take_all}
+use Rattle.std.proofs.lemmas.List.{append_cancel_right, length-map, take_all}
 use Rattle.std.proofs.lemmas.Nat.{mod_below}
 use Rattle.std.proofs.Math.Nat.{div-one}
 use Rattle.histories.specs.Histories.{History, by}
-use Rattle.page_base.specs.Lanes.{LaneSeen, Origin, Rose, told_at}
+use Rattle.page_base.specs.Lanes.{LaneSeen, Origin, told_at}
 use Rattle.page_base.specs.declared.keys.Key.{Key}
 use Rattle.page_base.specs.declared.keys.RegionShape.{RegionShape}
 use Rattle.page_model.specs.declared.entry.Entry.{Entry}
 use Rattle.page_model.specs.Bits.{is_dirty}
-use Rattle.page_model.specs.Laws.{CleanIsKept, DirtyIsRaised, FaultsAreCounted}
+use Rattle.page_model.specs.Closings.{is_unmapped}
+use Rattle.page_model.specs.Entries.{is_access}
+use Rattle.page_model.specs.Laws.{CleanIsKept, DirtyIsRaised, FaultsAreCounted, UnmappedIsEmptied}
+use Rattle.page_model.specs.Legal.{IsLegal}
 use Rattle.page_model.specs.Memory.{flat, kept}
 use Rattle.page_model.specs.Setups.{Setup, is_told, may_write}
 use Rattle.page_model.specs.Stands.{HomeLane}
 use Rattle.page_model.specs.StoreFaults.{last_fault}
 use Rattle.region_table.specs.Covers.{PiecesFollow}
 use Rattle.region_table.specs.Regions.{TableSeen, shapes_of}
-use Rattle.serial_pager.specs.Writings.{is_failed_write_of}
 use Rattle.store_trait.specs.Memory.{page_bytes}
 use Rattle.workload_text.specs.Line.{Line, load_line, store_line}
 use Rattle.workload_text.specs.Grammar.{Region}
@@ -32,7 +33,7 @@ use Rattle.flat_lines.specs.Worlds.{World, IsWorld, AllHold}
 use Rattle.script_run.specs.Contents.{joined, pages_in, page_told, contents_of}
 use Rattle.script_run.specs.Fits.{page_counts}
 use Rattle.script_run.specs.FitsJournals.{setup_at, FitsJournals}
-use Rattle.script_run.specs.FitsSerial.{spread_of, lane_at, region_is_told, left_by, counts_named, last_count, CountsFit, NoMore, EndSeen, FitsSerial}
+use Rattle.script_run.specs.FitsSerial.{all_open, spread_of, lane_at, region_is_told, left_by, counts_named, last_count, CountsFit, NoMore, EndSeen, FitsSerial}
 use Rattle.script_run.specs.FlatJournals.{JournalsAreFlat, AreLinesFlat}
 use Rattle.script_run.specs.FromJournals.{IsShown, IsGiven, FitsSo, FromJournals}
 use Rattle.script_run.specs.InsideRunning.{shape_of}
@@ -41,7 +42,11 @@ use Rattle.script_run.specs.declared.settings.Settings.{Settings}
 use Rattle.script_run.proofs.Answered.{AreSized, AnswersAll, answers_all}
 use Rattle.script_run.proofs.Contents.{AreWhole, joined-same, length-joined, page_of-joined, length-contents_by, get_or-contents_by}
 use Rattle.script_run.proofs.FittedLanes.{pages_fit}
-use Rattle.script_run.proofs.NamedCounts.{failed_somewhere, no_failed_of, last_grows, last_rose, all_named}
+use Rattle.script_run.proofs.Counted.{first_named, rose_named}
+use Rattle.script_run.proofs.Lasts.{Top, top_of, last_only, last_unmap, leaving_none, ends_gone}
+use Rattle.script_run.proofs.NamedCounts.{last_grows, all_named, named_known, none_counted_by}
+use Rattle.script_run.proofs.States.{state_first, unmapped_stays, each_gone}
+use Rattle.script_run.specs.LineEntries.{unmap_lines}
 use Rattle.script_run.proofs.Openings.{sizes_whole}
 use Rattle.script_run.proofs.Raised.{AllEndWell, all_end, legal_tail}
 use Rattle.script_run.proofs.ReadOnly.{left_by_alone}
@@ -56,6 +61,7 @@ pub record Laws : Type 0 where
   pub clean : CleanIsKept
   pub raised : DirtyIsRaised
   pub counted : FaultsAreCounted
+  pub emptied : UnmappedIsEmptied
   pub bytes : BytesByPages
   pub flat : JournalsAreFlat
 
@@ -129,18 +135,28 @@ module _ (laws : Laws) {J : Type 0} (has_noted : J → History Entry → Type 0)
 
   -- ---- the lines
 
+  -- what the last unmapping made
+  top : Top (spread_of c.layout) j.last_replies j.by_lines (λ s. j.last s ++ j.by_lines s)
+  top = top_of (spread_of c.layout) (unmap_lines (length table.regions)) j.last_replies j.by_lines (λ s. j.last s ++ j.by_lines s) (last_only (length table.regions)) j.unmap
+
+  no_access : (s : ℕ) → filter is_access (j.last s) ≡ []
+  no_access s = ap (filter is_access) (append_cancel_right (j.last s) (top.top s) (j.by_lines s) (top.is s)) ∙ leaving_none (top.top s) (top.leaving s)
+
+  by_legal : (s : ℕ) → s < c.layout.stripes → IsLegal (setup_at c (shapes_of table) rows s) (by 0 (j.by_lines s))
+  by_legal s below = legal_tail (w.setups s) (j.last s) (j.by_lines s) (j.legal s below)
+
   flat_lines : AreLinesFlat w lines replies (λ s. j.last s ++ j.by_lines s) (contents_of rows)
-  flat_lines = laws.flat w lines replies j.by_lines j.last (contents_of rows) fine (inside lines given.fit) j.lines_make j.flush j.legal start
+  flat_lines = laws.flat w lines replies j.by_lines j.last (contents_of rows) fine (inside lines given.fit) j.lines_make no_access j.legal start
 
   module _ (e : EndSeen) (shown : IsShown lines replies failed e) where
     lines_end : AllEndWell (spread_of c.layout) [] lines replies
-    lines_end = all_end laws.pieces laws.raised (spread_of c.layout) fine.some_byte fine.some_stripe w.setups [] lines replies (λ s. []) j.by_lines shown.kinds j.lines_make (λ s below. legal_tail (w.setups s) (j.last s) (j.by_lines s) (j.legal s below)) (λ s k r. absurd cc)
+    lines_end = all_end laws.pieces laws.raised (spread_of c.layout) fine.some_byte fine.some_stripe w.setups [] lines replies (λ s. []) j.by_lines j.lines_make by_legal (λ s k r. absurd cc)
 
-    answers : AnswersAll laws.bytes w fine were_told (length (contents_of rows)) [] (contents_of rows) lines replies flat_lines.parts
-    answers = answers_all laws.bytes w fine were_told (length (contents_of rows)) [] (contents_of rows) lines replies flat_lines.parts (inside lines given.fit) sized shown.kinds flat_lines.parts_are flat_lines.flat lines_end
+    answers : AnswersAll laws.bytes w fine were_told (length (contents_of rows)) laws.emptied [] (all_open (contents_of rows)) lines replies flat_lines.parts j.by_lines
+    answers = answers_all laws.bytes w fine were_told (length (contents_of rows)) laws.emptied [] (all_open (contents_of rows)) lines replies flat_lines.parts (λ s. []) j.by_lines (inside lines given.fit) sized (state_first (spread_of c.layout) fine.some_stripe (contents_of rows)) j.lines_make by_legal flat_lines.parts_are flat_lines.flat lines_end
 
     abbrev left : List (List ℕ)
-    left = left_by (contents_of rows) lines replies
+    left = (left_by (spread_of c.layout) (all_open (contents_of rows)) lines replies).regions
 
     -- ---- counts
 
@@ -149,19 +165,23 @@ module _ (laws : Laws) {J : Type 0} (has_noted : J → History Entry → Type 0)
       home = (j.home s r stripe (omega (arith, known, as_many lines, ap (λ (t : TableSeen). length t.regions) given.table_is))).1
 
       named : CountsFit (lane_at rows s r).count (counts_named (spread_of c.layout) s r replies) (last_fault (w.setups s) (by 0 (j.by_lines s)) r)
-      named = all_named laws.counted (w.setups s) r (spread_of c.layout) s lines replies (λ n. []) j.by_lines (lane_at rows s r).count shown.kinds j.lines_make (legal_tail (w.setups s) (j.last s) (j.by_lines s) (j.legal s stripe)) (omega (arith, first_is c gs rows given.lanes (shapes_of table) r known s (omega (arith, stripe, given.lanes.stripes))))
+      named = all_named laws.counted (w.setups s) r (spread_of c.layout) s lines replies (λ n. []) j.by_lines (lane_at rows s r).count j.lines_make (by_legal s stripe) (omega (arith, first_is c gs rows given.lanes (shapes_of table) r known s (omega (arith, stripe, given.lanes.stripes))))
 
       counts_fit : CountsFit (lane_at rows s r).count (counts_named (spread_of c.layout) s r replies) (lane_at ends s r).count
       counts_fit = record { rising = named.rising; within = omega (arith, named.within, last_grows laws.counted (w.setups s) r (j.last s) (j.by_lines s), home.count) }
 
-      rose_if : list_any (is_failed_write_of r) (j.last s) ≡ true → Rose (last_count (lane_at rows s r).count (counts_named (spread_of c.layout) s r replies)) (lane_at ends s r).count
-      rose_if any = omega (arith, named.within, last_rose laws.counted (w.setups s) r (j.last s) (j.by_lines s) (j.legal s stripe) any, home.count)
+      -- the counts of the last unmapping go on from those that are named
+      last_named : CountsFit (last_count (lane_at rows s r).count (counts_named (spread_of c.layout) s r replies)) (counts_named (spread_of c.layout) s r j.last_replies) (lane_at ends s r).count
+      last_named =
+          let x = all_named laws.counted (w.setups s) r (spread_of c.layout) s (unmap_lines (length table.regions)) j.last_replies j.by_lines (λ n. j.last n ++ j.by_lines n) (last_count (lane_at rows s r).count (counts_named (spread_of c.layout) s r replies)) j.unmap (j.legal s stripe) named.within in
+          record { rising = x.rising; within = omega (arith, x.within, home.count) }
 
-      none_failed : NoMore (lane_at rows s r).count (counts_named (spread_of c.layout) s r replies) (lane_at ends s r).count → list_any (is_failed_write_of r) (j.last s) ≡ false
-      none_failed no_more = elim (cases_Bool (list_any (is_failed_write_of r) (j.last s))) [
-        | inl any ↦ absurd (omega (arith, rose_if any, no_more.last_is, no_more.below))
-        | inr none ↦ none
-      ]
+      none_named : NoMore (lane_at rows s r).count (counts_named (spread_of c.layout) s r replies) (lane_at ends s r).count → counts_named (spread_of c.layout) s r j.last_replies ≡ []
+      none_named no_more = go (counts_named (spread_of c.layout) s r j.last_replies) refl
+        where
+          go : (ns : List ℕ) → counts_named (spread_of c.layout) s r j.last_replies ≡ ns → counts_named (spread_of c.layout) s r j.last_replies ≡ []
+          go [] e = e
+          go (n ∷ ns) e = absurd (let rose = rose_named (last_count (lane_at rows s r).count (counts_named (spread_of c.layout) s r replies)) n (lane_at ends s r).count ns (counts_named (spread_of c.layout) s r j.last_replies) e last_named in omega (arith, rose, no_more.last_is, no_more.below))
 
     -- ---- contents
 
@@ -203,8 +223,19 @@ module _ (laws : Laws) {J : Type 0} (has_noted : J → History Entry → Type 0)
           ∙ joined-page_of z (w.pages r) b (omega (arith, whole))
           ∙ take_all (w.pages r * z) b (omega (arith, whole))
 
-    clean_if : (r page : ℕ) → list_any (is_failed_write_of r) (j.last (stripe_in w.spread (range_key r page))) ≡ false → IsClean r page
-    clean_if r page none = j.clean (stripe_in w.spread (range_key r page)) (range_key r page) (its_stripe r page) none
+    -- so does a region that is unmapped in the end
+    gone_follows : (r : ℕ) → r < length gs → region_is_told rows r ≡ true → ((s : ℕ) → s < c.layout.stripes → is_unmapped (h s) r ≡ true) → bytes_at (contents_of ends) r ≡ bytes_at left r
+    gone_follows r known told gone = region_follows r known told (λ page below.
+        let s : ℕ = stripe_in w.spread (range_key r page) in
+        (laws.emptied (w.setups s) (h s) r (j.legal s (its_stripe r page)) (gone s (its_stripe r page))).clean (range_key r page) refl)
+
+    -- one is unless its last unmapping failed
+    last_gone : (r : ℕ) → r < length gs → ((s : ℕ) → s < c.layout.stripes → counts_named (spread_of c.layout) s r j.last_replies ≡ []) → (s : ℕ) → s < c.layout.stripes → is_unmapped (h s) r ≡ true
+    last_gone r known none = ends_gone (spread_of c.layout) fine.some_stripe r (unmap_lines (length table.regions)) j.last_replies j.by_lines (λ n. j.last n ++ j.by_lines n) j.unmap
+        (last_unmap (length table.regions) r (omega (arith, known, as_many lines, ap (λ (t : TableSeen). length t.regions) given.table_is))) none
+
+    shapes_len : (s : ℕ) → length (setup_at c (shapes_of table) rows s).shapes ≡ length gs
+    shapes_len s = ap length shapes_is ∙ length-map gs (shape_of c.layout.page_size)
 
     fits : FitsSerial (spread_of c.layout) lines rows ends e
     fits = record {
@@ -217,15 +248,15 @@ module _ (laws : Laws) {J : Type 0} (has_noted : J → History Entry → Type 0)
       sum_is = shown.sum_is;
       counts = λ s r stripe known. counts_fit s r stripe known;
       rose = λ f.
-          let x = j.some_failed f in
-          let y = failed_somewhere (w.setups x.0) (j.last x.0) (j.by_lines x.0) (j.legal x.0 x.1) x.2 in
-          let known : y.0 < length gs = omega (arith, y.1, ap length shapes_is, length-map gs (shape_of c.layout.page_size)) in
-          (x.0, y.0, x.1, known, rose_if x.0 y.0 x.1 known y.2);
-      holds = λ r known told none. region_follows r known told (λ page below. clean_if r page (none_failed (stripe_in w.spread (range_key r page)) r (its_stripe r page) known (none (stripe_in w.spread (range_key r page)) (its_stripe r page))));
-      whole = λ f r known told. region_follows r known told (λ page below. clean_if r page (no_failed_of (j.last (stripe_in w.spread (range_key r page))) r (j.none_failed f (stripe_in w.spread (range_key r page)))));
+          let named_known_ = named_known (spread_of c.layout) fine.some_stripe w.setups gs shapes_len (unmap_lines (length table.regions)) j.last_replies j.by_lines (λ n. j.last n ++ j.by_lines n) j.unmap j.legal in
+          let x = first_named gs (spread_of c.layout) j.last_replies fine.some_stripe named_known_ (sym j.failed_is ∙ f) in
+          (x.s, x.r, x.stripe, x.region, rose_named (last_count (lane_at rows x.s x.r).count (counts_named (spread_of c.layout) x.s x.r replies)) x.count (lane_at ends x.s x.r).count x.more (counts_named (spread_of c.layout) x.s x.r j.last_replies) x.named (last_named x.s x.r x.stripe x.region));
+      holds = λ r known told none. gone_follows r known told (last_gone r known (λ s stripe. none_named s r stripe known (none s stripe)));
+      unmapped_holds = λ r known told gone. gone_follows r known told (λ s stripe. unmapped_stays r (j.last s) (j.by_lines s) (each_gone (spread_of c.layout) j.by_lines r (answers.state.gone r ∙ gone) s stripe));
+      whole = λ f r known told. gone_follows r known told (last_gone r known (λ s stripe. none_counted_by (spread_of c.layout) s r j.last_replies (sym j.failed_is ∙ f)));
       read_only = λ r known shut told.
           let cannot : may_write (slice_get (shapes_of table) r) ≡ false = ap (λ (ss : List RegionShape). may_write (slice_get ss r)) shapes_is ∙ writable_is z gs r ∙ shut in
-          region_follows r known told (λ page below. laws.raised.read_only (w.setups (stripe_in w.spread (range_key r page))) (h (stripe_in w.spread (range_key r page))) (range_key r page) (j.legal (stripe_in w.spread (range_key r page)) (its_stripe r page)) cannot) ∙ left_by_alone gs r shut (contents_of rows) lines replies given.fit;
+          region_follows r known told (λ page below. laws.raised.read_only (w.setups (stripe_in w.spread (range_key r page))) (h (stripe_in w.spread (range_key r page))) (range_key r page) (j.legal (stripe_in w.spread (range_key r page)) (its_stripe r page)) cannot) ∙ left_by_alone gs r shut (spread_of c.layout) (all_open (contents_of rows)) lines replies given.fit;
     }
 
     pub fits_so : FitsSo c lines rows ends replies failed e

@@ -13,7 +13,7 @@ use Rattle.page_base.specs.declared.layout.Layout.{Layout}
 use Rattle.store_trait.specs.Memory.{memory_origin, page_bytes}
 use Rattle.store_trait.specs.MemLanes.{lane_origin, lane_seen}
 use Rattle.store_trait.specs.declared.mem_lane.MemLane.{MemLane}
-use Rattle.workload_text.specs.Line.{Line, load_line, store_line}
+use Rattle.workload_text.specs.Line.{Line, load_line, store_line, flush_line, unmap_line}
 use Rattle.workload_text.specs.Grammar.{Region}
 use Rattle.workload_text.specs.Accepted.{AllFit, regions_of}
 use Rattle.script_run.specs.Serial.{serial_text}
@@ -21,7 +21,7 @@ use Rattle.script_run.specs.Contents.{no_lane, rows_in, pages_in, contents_of}
 use Rattle.script_run.specs.Fits.{FitLanes, share_of, page_counts}
 use Rattle.script_run.specs.Replies.{Reply, fault, is_fault_reply}
 use Rattle.flat_lines.specs.Spreads.{Spread, stripe_in}
-use Rattle.script_run.specs.FitsSerial.{spread_of, lane_at, region_is_told, StoresTo, AnyStoresTo, MayAnswer, AllAnswer, left, fault_count_in, counts_named, Rising, CountsFit, last_count, EndSeen, FitsSerial}
+use Rattle.script_run.specs.FitsSerial.{spread_of, lane_at, region_is_told, StoresTo, AnyStoresTo, RunState, all_open, MayAnswer, AllAnswer, left, fault_count_in, counts_named, Rising, CountsFit, last_count, EndSeen, FitsSerial}
 use Rattle.script_run.specs.FitsLaws.{AllTold}
 use Rattle.script_run.proofs.FittedLanes.{there, lane_there, row_len, lane_is, pages_fit, some_row}
 use Rattle.script_run.proofs.WithoutFaults.{without_faults}
@@ -45,26 +45,28 @@ module _ (gs : List Region) (t : Spread) (told : ℕ → Bool) where
   known_more : (lines : List Line) (l : Line) → AllFit gs (l ∷ []) → KnownIn lines → KnownIn (l ∷ lines)
   known_more lines l fit all k s = elim s [ inl here ↦ stores_known gs t.page_size k l fit here | inr more ↦ all k more ]
 
-  fault_known : (lines : List Line) (regions : List (List ℕ)) (l : Line) (k : Key) (count done : ℕ) → AllFit gs (l ∷ []) → KnownIn lines → MayAnswer t told lines regions l (fault k count done) → k.region < length gs
-  fault_known lines regions (load_line r off len) k count done fit all m = elim m.1 [
+  fault_known : (lines : List Line) (x : RunState) (l : Line) (k : Key) (count done : ℕ) → AllFit gs (l ∷ []) → KnownIn lines → MayAnswer t told lines x l (fault k count done) → k.region < length gs
+  fault_known lines x (load_line r off len) k count done fit all m = elim m.names [
     | inl e ↦ subst (λ n. n < length gs) (sym (ap (λ (j : Key). j.region) e)) fit.0.known
     | inr more ↦ all k more.1
   ]
-  fault_known lines regions (store_line r off bytes) k count done fit all m = elim m.1 [
+  fault_known lines x (store_line r off bytes) k count done fit all m = elim m.names [
     | inl e ↦ subst (λ n. n < length gs) (sym (ap (λ (j : Key). j.region) e)) fit.0.range.known
     | inr more ↦ all k more.1
   ]
-  fault_known lines regions l k count done fit all m = absurd m
+  fault_known lines x flush_line k count done fit all m = all k m
+  fault_known lines x (unmap_line r) k count done fit all m = all k m.2
+  fault_known lines x l k count done fit all m = absurd m
 
-  pub all_known : (before : List Line) (regions : List (List ℕ)) (lines : List Line) (replies : List Reply) → AllFit gs lines → KnownIn before → AllAnswer t told before regions lines replies → AllKnown gs replies
-  all_known before regions [] [] fit all m = tt
-  all_known before regions [] (a ∷ more) fit all m = absurd m
-  all_known before regions (l ∷ ls) [] fit all m = absurd m
-  all_known before regions (l ∷ ls) (fault k count done ∷ more) fit all m = (
-    fault_known (l ∷ before) regions l k count done (fit.0, tt) (known_more before l (fit.0, tt) all) m.0,
-    all_known (l ∷ before) (left regions l (fault k count done)) ls more fit.1 (known_more before l (fit.0, tt) all) m.1,
+  pub all_known : (before : List Line) (x : RunState) (lines : List Line) (replies : List Reply) → AllFit gs lines → KnownIn before → AllAnswer t told before x lines replies → AllKnown gs replies
+  all_known before x [] [] fit all m = tt
+  all_known before x [] (a ∷ more) fit all m = absurd m
+  all_known before x (l ∷ ls) [] fit all m = absurd m
+  all_known before x (l ∷ ls) (fault k count done ∷ more) fit all m = (
+    fault_known (l ∷ before) x l k count done (fit.0, tt) (known_more before l (fit.0, tt) all) m.0,
+    all_known (l ∷ before) (left t x l (fault k count done)) ls more fit.1 (known_more before l (fit.0, tt) all) m.1,
   )
-  all_known before regions (l ∷ ls) (a ∷ more) fit all m = all_known (l ∷ before) (left regions l a) ls more fit.1 (known_more before l (fit.0, tt) all) m.1
+  all_known before x (l ∷ ls) (a ∷ more) fit all m = all_known (l ∷ before) (left t x l a) ls more fit.1 (known_more before l (fit.0, tt) all) m.1
 
 -- ---- where no count is named, there is no fault
 
@@ -160,11 +162,11 @@ pub memory_text : (layout : Layout) (lines : List Line) (stripes ends : List (Li
 memory_text layout lines stripes ends e fit all f =
     let t : Spread = spread_of layout in
     let gs : List Region = regions_of lines in
-    let known : AllKnown gs f.replies = all_known gs t (region_is_told (rows_in stripes)) [] (contents_of (rows_in stripes)) lines f.replies all (λ k s. absurd s) f.answered in
+    let known : AllKnown gs f.replies = all_known gs t (region_is_told (rows_in stripes)) [] (all_open (contents_of (rows_in stripes))) lines f.replies all (λ k s. absurd s) f.answered in
     let none : list_any is_fault_reply f.replies ≡ false = none_named gs t f.replies (omega (arith, layout.some_stripe)) known (λ s r stripe region. none_counted (lane_at (rows_in stripes) s r).count (counts_named t s r f.replies) (lane_at (rows_in ends) s r).count (f.counts s r stripe region) (zero_counts ends s r)) in
     let calm : f.failed ≡ false = elim (cases_Bool f.failed) [
       | inl failed ↦ absurd (let x = f.rose failed in omega (arith, x.4, zero_counts ends x.0 x.1))
       | inr fine ↦ fine
     ] in
     let clear : e.faulted ≡ false = f.flag ∙ ap (λ b. b || f.failed) none ∙ calm in
-    (without_faults t lines (rows_in stripes) (rows_in ends) e f (all_told layout gs stripes fit) clear).text_is
+    (without_faults t lines (rows_in stripes) (rows_in ends) e (omega (arith, layout.some_stripe)) f (all_told layout gs stripes fit) clear).text_is

@@ -1,44 +1,35 @@
 -- What a run was given, what it shows, and what its journals have noted when it has ended.
-use Rattle.std.proofs.Common.{◌≡◌, inl, inr, ℕ, ◌<◌, ◌≤◌, Bool, true, false, not, nat_lt, ◌&&◌, ◌||◌, List, [], ◌∷◌, ◌++◌, length, map, Option, Some, slice_get, sym, ap, subst, ◌∙◌, arith, append-nil}
-use Rattle.std.specs.List.{list_all, list_any}
+use Rattle.std.proofs.Common.{◌≡◌, ℕ, ◌<◌, ◌≤◌, Bool, true, false, ◌||◌, List, [], ◌++◌, length, map, Option, Some, slice_get, sym, ap, subst, ◌∙◌, arith, append-nil}
+use Rattle.std.specs.List.{list_any}
 use Rattle.std.specs.Option.{option_map}
-use Rattle.std.proofs.lemmas.Bool.{and_parts, cases_Bool, or_left, or_right}
 use Rattle.std.proofs.lemmas.List.{length-map}
 use Rattle.std.proofs.lemmas.Option.{slice_get_within, slice_get-map}
 use Rattle.histories.specs.Histories.{History, by}
 use Rattle.page_base.specs.Lanes.{LaneSeen}
-use Rattle.page_base.specs.declared.keys.Key.{Key}
 use Rattle.page_base.specs.declared.keys.RegionShape.{RegionShape}
-use Rattle.page_base.specs.Pages.{same}
 use Rattle.page_model.specs.declared.entry.Entry.{Entry}
-use Rattle.page_model.specs.declared.entry.Entry.TheVariants.{WriteFailed, StartWrite, Written}
-use Rattle.page_model.specs.Bits.{is_dirty, is_some_and, opened_at, written_since}
-use Rattle.page_model.specs.Core as plain
 use Rattle.page_model.specs.Core.{Core, LanePlace, Home}
-use Rattle.page_model.specs.Laws.{CleanIsKept}
 use Rattle.page_model.specs.Setups.{Setup, Fits}
 use Rattle.page_model.specs.Legal.{IsLegal}
 use Rattle.page_model.specs.Stands.{StandsFor, PlaceStands}
-use Rattle.page_model.specs.Readers.{IsHere, PagesShow}
-use Rattle.page_model.specs.Residents.{is_resident}
+use Rattle.page_model.specs.Readers.{IsHere}
 use Rattle.region_table.specs.Regions.{TableSeen, shapes_of}
 use Rattle.serial_pager.specs.Seen.{StripeSeen}
-use Rattle.serial_pager.specs.Writings.{flushes, is_flush}
 use Rattle.serial_pager.specs.Pagers as pagers
-use Rattle.serial_pager.specs.Pagers.{PagerSeen, AreRowsOf, IsSame, WentAll, WroteDirty, core_in}
+use Rattle.serial_pager.specs.Pagers.{PagerSeen, AreRowsOf, WentAll, core_in}
 use Rattle.workload_text.specs.Line.{Line}
 use Rattle.workload_text.specs.Accepted.{AllFit, IsRunnable, regions_of}
 use Rattle.workload_text.specs.Built.{is_built}
 use Rattle.script_run.specs.Contents.{origins_of}
 use Rattle.script_run.specs.Fits.{FitLanes}
 use Rattle.script_run.specs.FitsJournals.{setup_at, FitsJournals}
-use Rattle.script_run.specs.FitsLaws.{DirtyIsWritten, is_written}
 use Rattle.script_run.specs.FitsSerial.{spread_of, EndSeen}
 use Rattle.script_run.specs.FromJournals.{IsShown, IsGiven}
+use Rattle.script_run.specs.LineEntries.{AllMake, unmap_lines}
 use Rattle.script_run.specs.Replies.{is_fault_reply, replies_text}
 use Rattle.script_run.specs.Tables.{table_of}
 use Rattle.script_run.specs.InsideRooms.{rooms}
-use Rattle.script_run.specs.InsideRunning.{IsShaped, MayRun, Ran, OpensOn}
+use Rattle.script_run.specs.InsideRunning.{IsShaped, StaysMade, StandsBy, MayRun, Ran, DidLines, UnmapsLast, OpensOn}
 use Rattle.script_run.specs.declared.replies.Replies.{Replies}
 use Rattle.script_run.specs.declared.settings.Settings.{Settings}
 use Rattle.script_run.proofs.EndedOn.{EndAt, end_at, origins_kept}
@@ -46,16 +37,9 @@ use Rattle.script_run.proofs.FittedLanes.{there, lane_there}
 use Rattle.script_run.proofs.Lists.{some_is}
 use Rattle.script_run.proofs.Makings.{all_more}
 use Rattle.script_run.proofs.RanItems.{shaped_same}
-use Rattle.script_run.proofs.RanLines.{make_all}
-use Rattle.script_run.proofs.Ranged.{same_more}
+use Rattle.script_run.proofs.RanLines.{make_all, stands_after}
+use Rattle.script_run.proofs.Ranged.{stays_more}
 use Rattle.script_run.proofs.Tabled.{as_many, shapes_are}
-
--- a page that a core has as clean is clean by the history that it stands for
-clean_by : PagesShow → CleanIsKept → (h : History Entry) (c : Core) (k : Key) → StandsFor h c → plain.is_dirty c k ≡ false → is_dirty h k ≡ false
-clean_by show clean h c k stands e = elim (cases_Bool (is_resident h k)) [
-  | inl there ↦ sym (ap (λ b. b && is_dirty h k) there) ∙ (sym (show.dirty h c k stands) ∙ e)
-  | inr gone ↦ clean.absent c.setup h k stands.legal gone
-]
 
 -- a pager that was just opened may run the lines of a workload
 pub may_run : {J : Type 0} (c : Settings) (lines : List Line) (rows : List (List LaneSeen)) (journals : List J) → IsRunnable lines → is_built lines ≡ true → (r : Replies) (p : PagerSeen J) → OpensOn c (regions_of lines) rows journals p → rooms (regions_of lines) lines ≤ r.text.spare → r.loaded ≡ 0 → MayRun (spread_of c.layout) (regions_of lines) lines r p
@@ -68,14 +52,20 @@ may_run c lines rows journals can built r p opens room count = record {
   pieces = omega (arith, opens.spent, can.commands);
 }
 
--- The lines ran on a pager that was opened so, from p to q, and then its dirty pages were written, to z.
-module _ {J : Type 0} (has_noted : J → History Entry → Type 0) (c : Settings) (lines : List Line) (rows ends : List (List LaneSeen)) (journals : List J) (fit : FitLanes c.layout (regions_of lines) rows) (r0 r1 : Replies) (p q z : PagerSeen J) (opens : OpensOn c (regions_of lines) rows journals p) (ran : Ran has_noted (spread_of c.layout) (regions_of lines) lines r0 r1 p q) (same : IsSame q z) (are : AreRowsOf z ends)
-    (table : TableSeen) (table_is : table ≡ table_of c.layout.page_size lines) (built : is_built lines ≡ true) where
+-- The lines ran on a pager that was opened so, from p to q, and then its regions were unmapped, to z.
+module _ {J : Type 0} (has_noted : J → History Entry → Type 0) (c : Settings) (table : TableSeen) (lines : List Line) (rows ends : List (List LaneSeen)) (journals : List J) (fit : FitLanes c.layout (regions_of lines) rows) (r0 r1 : Replies) (p q z : PagerSeen J) (opens : OpensOn c (regions_of lines) rows journals p) (ran : Ran has_noted (spread_of c.layout) (regions_of lines) lines r0 r1 p q) (failed : Bool) (last : UnmapsLast has_noted (length table.regions) failed q z) (are : AreRowsOf z ends)
+    (table_is : table ≡ table_of c.layout.page_size lines) (built : is_built lines ≡ true) where
   stripes_p : length p.stripes ≡ c.layout.stripes
   stripes_p = opens.shaped.stripes
 
-  both : IsSame p z
-  both = same_more p q z ran.same same
+  shaped_q : IsShaped (spread_of c.layout) (regions_of lines) q
+  shaped_q = shaped_same (spread_of c.layout) (regions_of lines) p q opens.shaped ran.did.same
+
+  unmapped : DidLines has_noted (spread_of c.layout) (unmap_lines (length table.regions)) last.replies q z
+  unmapped = last.did (spread_of c.layout) (regions_of lines) shaped_q
+
+  both : StaysMade p z
+  both = stays_more p q z ran.did.same unmapped.same
 
   shaped : IsShaped (spread_of c.layout) (regions_of lines) z
   shaped = shaped_same (spread_of c.layout) (regions_of lines) p z opens.shaped both
@@ -93,9 +83,8 @@ module _ {J : Type 0} (has_noted : J → History Entry → Type 0) (c : Settings
   setup_is s = ap (λ (ss : List RegionShape). setup_at c ss rows s) (both.shapes ∙ opens.shaped.shapes ∙ sym (ap shapes_of table_is ∙ shapes_are c.layout.page_size lines built))
 
   -- what the run shows
-  pub run_shown : (failed : Bool) (e : EndSeen) → e.text ≡ r1.text.items → e.faulted ≡ (r1.faulted || failed) → e.loaded ≡ r1.loaded → e.sum ≡ r1.sum → r0.text.items ≡ [] → r0.faulted ≡ false → r0.loaded ≡ 0 → r0.sum ≡ 0 → IsShown lines ran.replies failed e
-  run_shown failed e text flag count total text0 flag0 count0 total0 = record {
-    kinds = ran.kinds;
+  pub run_shown : (e : EndSeen) → e.text ≡ r1.text.items → e.faulted ≡ (r1.faulted || failed) → e.loaded ≡ r1.loaded → e.sum ≡ r1.sum → r0.text.items ≡ [] → r0.faulted ≡ false → r0.loaded ≡ 0 → r0.sum ≡ 0 → IsShown lines ran.replies failed e
+  run_shown e text flag count total text0 flag0 count0 total0 = record {
     text_is = text ∙ ran.text ∙ ap (λ (x : List ℕ). x ++ replies_text (regions_of lines) ran.replies) text0;
     flag = flag ∙ ap (λ b. b || failed) (ran.faulted ∙ ap (λ b. b || list_any is_fault_reply ran.replies) flag0);
     loaded_is = omega (arith, count, ran.loaded, count0);
@@ -116,66 +105,51 @@ module _ {J : Type 0} (has_noted : J → History Entry → Type 0) (c : Settings
     origins = run_origins;
   }
 
-  module _ (empty : (s : ℕ) (journal : J) → slice_get journals s ≡ Some journal → has_noted journal []) (failed : Bool) (wrote : WroteDirty 0 has_noted failed q z) where
-    went : WentAll 0 has_noted (λ s. wrote.made s ++ ran.made s) p z
-    went = all_more has_noted ran.made wrote.made p q z ran.same.stripes ran.went wrote.went
+  module _ (empty : (s : ℕ) (journal : J) → slice_get journals s ≡ Some journal → has_noted journal []) where
+    went : WentAll 0 has_noted (λ s. unmapped.made s ++ ran.did.made s) p z
+    went = all_more has_noted ran.did.made unmapped.made p q z ran.did.same.stripes ran.did.went unmapped.went
 
-    noted_at : (s : ℕ) (y : StripeSeen J) → slice_get z.stripes s ≡ Some y → has_noted y.journal (by 0 (wrote.made s ++ ran.made s))
+    first : StandsBy p (λ s. [])
+    first s core at = opens.stands s core at
+
+    stands_q : StandsBy q (λ s. ran.did.made s ++ [])
+    stands_q = stands_after has_noted p q ran.did.made (λ s. []) ran.did.same.stripes ran.did.went first
+
+    noted_at : (s : ℕ) (y : StripeSeen J) → slice_get z.stripes s ≡ Some y → has_noted y.journal (by 0 (unmapped.made s ++ ran.did.made s))
     noted_at s y is =
-        let x = there p.stripes s (omega (arith, slice_get_within z.stripes s y is, same.stripes, ran.same.stripes)) in
+        let x = there p.stripes s (omega (arith, slice_get_within z.stripes s y is, both.stripes)) in
         let first : slice_get journals s ≡ Some x.0.journal = ap (λ (js : List J). slice_get js s) (sym opens.journals_are) ∙ slice_get-map (λ (v : StripeSeen J). v.journal) p.stripes s ∙ ap (option_map (λ (v : StripeSeen J). v.journal)) x.1 in
-        subst (λ (h : History Entry). has_noted y.journal h) (append-nil (by 0 (wrote.made s ++ ran.made s))) ((went s x.0 y x.1 is).noted [] (empty s x.0.journal first))
+        subst (λ (h : History Entry). has_noted y.journal h) (append-nil (by 0 (unmapped.made s ++ ran.did.made s))) ((went s x.0 y x.1 is).noted [] (empty s x.0.journal first))
 
-    stands_at : (s : ℕ) (y : StripeSeen J) → slice_get z.stripes s ≡ Some y → StandsFor (by 0 (wrote.made s ++ ran.made s)) y.core
+    stands_at : (s : ℕ) (y : StripeSeen J) → slice_get z.stripes s ≡ Some y → StandsFor (by 0 (unmapped.made s ++ ran.did.made s)) y.core
     stands_at s y is =
-        let x = there p.stripes s (omega (arith, slice_get_within z.stripes s y is, same.stripes, ran.same.stripes)) in
-        subst (λ (h : History Entry). StandsFor h y.core) (append-nil (by 0 (wrote.made s ++ ran.made s))) ((went s x.0 y x.1 is).stands [] (opens.stands s x.0.core (ap core_in x.1)))
+        let x = there p.stripes s (omega (arith, slice_get_within z.stripes s y is, both.stripes)) in
+        subst (λ (h : History Entry). StandsFor h y.core) (append-nil (by 0 (unmapped.made s ++ ran.did.made s))) ((went s x.0 y x.1 is).stands [] (opens.stands s x.0.core (ap core_in x.1)))
 
     -- a lane that a core has at home stands as one
     home_stands : (h : History Entry) (core : Core) (r : ℕ) (lane : LaneSeen) → StandsFor h core → IsHere core r lane → PlaceStands core.setup h r (Home lane)
     home_stands h core r lane stands here = subst (λ (place : LanePlace). PlaceStands core.setup h r place) here.home (stands.regions r here.region here.is).place
 
-    pub fits_journals : PagesShow → CleanIsKept → (noted : List J) → noted ≡ map (λ (x : StripeSeen J). x.journal) z.stripes → FitsJournals has_noted c table lines rows ends ran.replies failed noted
-    fits_journals shows cleans noted are_noted = record {
-      by_lines = ran.made;
-      last = wrote.made;
-      lines_make = make_all (spread_of c.layout) lines ran.replies (λ s. []) (λ s. ran.made s ++ []) ran.made (λ s. sym (append-nil (ran.made s))) (ran.lines_make (λ s. []));
-      flush = wrote.pass;
-      clean = λ s k below none.
-          let e = ended s (omega (arith, below, fit.stripes)) in
-          clean_by shows cleans (by 0 (wrote.made s ++ ran.made s)) e.stripe.core k (stands_at s e.stripe e.at) (wrote.clean s e.stripe e.at k none);
+    pub fits_journals : (noted : List J) → noted ≡ map (λ (x : StripeSeen J). x.journal) z.stripes → FitsJournals has_noted c table lines rows ends ran.replies failed noted
+    fits_journals noted are_noted = record {
+      by_lines = ran.did.made;
+      last = unmapped.made;
+      last_replies = last.replies;
+      lines_make = make_all (spread_of c.layout) lines ran.replies (λ s. []) (λ s. ran.did.made s ++ []) ran.did.made (λ s. sym (append-nil (ran.did.made s))) (ran.did.make (λ s. []) first);
+      unmap = subst (λ (b : ℕ → List Entry). AllMake (spread_of c.layout) (unmap_lines (length table.regions)) last.replies b (λ s. unmapped.made s ++ b s)) (λ i s. append-nil (ran.did.made s) i) (unmapped.make (λ s. ran.did.made s ++ []) stands_q);
+      failed_is = last.failed_is;
       noted = λ s journal e.
           let below = slice_get_within noted s journal e in
           let y = there z.stripes s (omega (arith, below, ap length are_noted, length-map z.stripes (λ (x : StripeSeen J). x.journal))) in
           let its : y.0.journal ≡ journal = let two : Some y.0.journal ≡ Some journal = sym (ap (λ (js : List J). slice_get js s) are_noted ∙ slice_get-map (λ (v : StripeSeen J). v.journal) z.stripes s ∙ ap (option_map (λ (v : StripeSeen J). v.journal)) y.1) ∙ e in cc in
-          subst (λ (j : J). has_noted j (by 0 (wrote.made s ++ ran.made s))) its (noted_at s y.0 y.1);
+          subst (λ (j : J). has_noted j (by 0 (unmapped.made s ++ ran.did.made s))) its (noted_at s y.0 y.1);
       legal = λ s below.
           let e = ended s (omega (arith, below, fit.stripes)) in
-          subst (λ (u : Setup). IsLegal u (by 0 (wrote.made s ++ ran.made s))) (e.setup ∙ setup_is s) (stands_at s e.stripe e.at).legal;
+          subst (λ (u : Setup). IsLegal u (by 0 (unmapped.made s ++ ran.did.made s))) (e.setup ∙ setup_is s) (stands_at s e.stripe e.at).legal;
       home = λ s r below known.
           let e = ended s (omega (arith, below, fit.stripes)) in
           let lane = there e.end r (omega (arith, known, e.end_long, as_many lines, ap (λ (t : TableSeen). length t.regions) table_is)) in
-          let its = home_stands (by 0 (wrote.made s ++ ran.made s)) e.stripe.core r lane.0 (stands_at s e.stripe e.at) (e.lanes.here r lane.0 lane.1) in
-          subst (λ (l : LaneSeen). PlaceStands (setup_at c (shapes_of table) rows s) (by 0 (wrote.made s ++ ran.made s)) r (Home l)) (sym (lane_there ends s r e.end lane.0 e.is lane.1))
-          (subst (λ (u : Setup). PlaceStands u (by 0 (wrote.made s ++ ran.made s)) r (Home lane.0)) (e.setup ∙ setup_is s) its);
-      some_failed = λ f. let x = wrote.some f in (x.0, omega (arith, x.1, ran.same.stripes, stripes_p), x.2);
-      none_failed = wrote.none;
+          let its = home_stands (by 0 (unmapped.made s ++ ran.did.made s)) e.stripe.core r lane.0 (stands_at s e.stripe e.at) (e.lanes.here r lane.0 lane.1) in
+          subst (λ (l : LaneSeen). PlaceStands (setup_at c (shapes_of table) rows s) (by 0 (unmapped.made s ++ ran.did.made s)) r (Home l)) (sym (lane_there ends s r e.end lane.0 e.is lane.1))
+          (subst (λ (u : Setup). PlaceStands u (by 0 (unmapped.made s ++ ran.did.made s)) r (Home lane.0)) (e.setup ∙ setup_is s) its);
     }
-
--- writes for a flush that leave a dirty page clean have written it
-written_of : (k : Key) (older es : List Entry) → list_all flushes es ≡ true → is_dirty (by 0 older) k ≡ true → is_dirty (by 0 (es ++ older)) k ≡ false → list_any (is_written k) es ≡ true
-written_of k older [] pass dirty clean = absurd (let no : true ≡ false = sym dirty ∙ clean in cc)
-written_of k older ((Written j at bytes) ∷ es) pass dirty clean = elim (cases_Bool (same j k)) [
-  | inl here ↦ or_left (same j k) (list_any (is_written k) es) here
-  | inr other ↦
-      let g : History Entry = by 0 (es ++ older) in
-      let still : is_dirty g k ≡ false = sym (ap (λ (b : Bool). is_some_and (λ place. not (b && nat_lt place at || written_since g k place)) (opened_at g k)) other) ∙ clean in
-      or_right (same j k) (list_any (is_written k) es) (written_of k older es pass dirty still)
-]
-written_of k older ((StartWrite j why) ∷ es) pass dirty clean = written_of k older es (and_parts (is_flush why) (list_all flushes es) pass).1 dirty clean
-written_of k older ((WriteFailed j n) ∷ es) pass dirty clean = written_of k older es pass dirty clean
-written_of k older (e ∷ es) pass dirty clean = absurd cc
-
-pub dirty_is_written : {J : Type 0} (has_noted : J → History Entry → Type 0) → DirtyIsWritten has_noted
-dirty_is_written has_noted c table lines rows ends replies failed journals s k f below dirty none =
-    written_of k (f.by_lines s) (f.last s) (f.flush s) dirty (f.clean s k below none)

@@ -19,6 +19,10 @@ pub mod Tellings
 pub mod RoomsLeft
 pub mod WithoutFaults
 pub mod Ranged
+pub mod SoFar
+pub mod Shaped
+pub mod Walked
+pub mod StripesWalked
 pub mod RanLines
 pub mod RanOne
 pub mod RanItems
@@ -30,5 +34,7 @@ pub mod RegionRules
 pub mod DidLines
 pub mod Raised
 pub mod NamedCounts
+pub mod States
+pub mod Lasts
 pub mod Answered
 pub mod FromJournals

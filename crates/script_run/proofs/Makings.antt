@@ -1,7 +1,7 @@
 -- What stripes made, one stretch after another.
-use Rattle.std.proofs.Common.{◌≡◌, inl, inr, ℕ, ◌≤◌, ◌==◌, Bool, true, false, cond, eqb, List, [], ◌∷◌, ◌++◌, length, reverse, Option, Some, None, refl, sym, ap, subst, ◌∙◌, arith, append_assoc, append-nil, length-append}
+use Rattle.std.proofs.Common.{◌≡◌, inl, inr, ℕ, ◌==◌, Bool, true, false, cond, eqb, List, [], ◌∷◌, ◌++◌, length, reverse, Option, Some, None, refl, sym, ap, subst, ◌∙◌, arith, append_assoc, append-nil, length-append}
 use Rattle.std.specs.List.{filter, list_all}
-use Rattle.std.proofs.lemmas.Bool.{cases_Bool, cases_eq, and_parts, and_from, eqb-true, eq-eqb}
+use Rattle.std.proofs.lemmas.Bool.{cases_eq, and_parts, and_from, eqb-true, eq-eqb, ne_eqb}
 use Rattle.std.proofs.lemmas.List.{map-append, reverse-append}
 use Rattle.std.proofs.lemmas.List.Elements.{filter-append}
 use Rattle.std.proofs.lemmas.List.Folds.{list_all-append}
@@ -10,25 +10,22 @@ use Rattle.histories.specs.Histories.{History, by}
 use Rattle.page_base.specs.declared.keys.Key.{Key}
 use Rattle.page_base.specs.declared.keys.Why.{Why}
 use Rattle.page_model.specs.declared.entry.Entry.{Entry}
-use Rattle.page_model.specs.declared.entry.Entry.TheVariants.{Load, Save, ReadFailed, WriteFailed, Hint}
+use Rattle.page_model.specs.declared.entry.Entry.TheVariants.{Load, Save, Hint}
 use Rattle.page_model.specs.Entries.{key_of, is_access}
 use Rattle.page_model.specs.Stands.{StandsFor}
 use Rattle.serial_pager.specs.Seen.{StripeSeen}
 use Rattle.serial_pager.specs.declared.fault.PageFault.{PageFault}
 use Rattle.serial_pager.specs.Accesses.{serves}
 use Rattle.serial_pager.specs.Goings.{Went}
-use Rattle.serial_pager.specs.Pagers.{PagerSeen, IsSame, PieceFails, WentAll, WentToIn, made_in, stripe_at}
+use Rattle.serial_pager.specs.Pagers.{PagerSeen, IsSame, WentAll, made_in, stripe_at}
 use Rattle.script_run.proofs.FittedLanes.{there}
-use Rattle.script_run.specs.LineEntries.{Fails, MakesInOrder}
+use Rattle.script_run.specs.LineEntries.{MakesInOrder}
 use Rattle.page_model.specs.Entries.{lies_in, of_stripe}
-use Rattle.script_run.specs.InsideRanges.{GoesBy}
+use Rattle.script_run.specs.InsideRanges.{GoesBy, PieceDone, PieceFaults}
 use Rattle.script_run.proofs.Ranged.{same_stripe}
 
-neq-eqb : (a b : ℕ) → (a ≡ b → ⊥) → eqb a b ≡ false
-neq-eqb a b other = elim (cases_Bool (eqb a b)) [ inl e ↦ absurd (other (eqb-true a b e)) | inr e ↦ e ]
-
 eqb-swap : (a b : ℕ) → eqb a b ≡ eqb b a
-eqb-swap a b = elim (cases_eq a b) [ inl e ↦ eq-eqb a b e ∙ sym (eq-eqb b a (sym e)) | inr other ↦ neq-eqb a b other ∙ sym (neq-eqb b a (λ e. other (sym e))) ]
+eqb-swap a b = elim (cases_eq a b) [ inl e ↦ eq-eqb a b e ∙ sym (eq-eqb b a (sym e)) | inr other ↦ ne_eqb a b other ∙ sym (ne_eqb b a (λ e. other (sym e))) ]
 
 -- ---- histories
 
@@ -189,31 +186,23 @@ module _ {J : Type 0} (has_noted : J → History Entry → Type 0) (may : Entry 
   }
 
   -- one more piece
-  pub by_access : (a : List Entry) (p q z : PagerSeen J) (k : Key) (reasons : Why → Bool) (weak : ServesBy may k reasons) (e : Entry) → IsSame p q → GoesBy has_noted may a [] p q → WentToIn 0 has_noted (stripe_at q k) (serves k reasons) e q z → key_of e ≡ Some k → is_access e ≡ true → may e ≡ true → GoesBy has_noted may (a ++ e ∷ []) [] p z
+  pub by_access : (a : List Entry) (p q z : PagerSeen J) (k : Key) (reasons : Why → Bool) (weak : ServesBy may k reasons) (e : Entry) → IsSame p q → GoesBy has_noted may a [] p q → PieceDone has_noted k reasons e q z → key_of e ≡ Some k → is_access e ≡ true → may e ≡ true → GoesBy has_noted may (a ++ e ∷ []) [] p z
   by_access a p q z k reasons weak e same first on its access allowed =
       by_more a (e ∷ []) [] p q z same first (record {
-        made = made_in (stripe_at q k) (e ∷ on.before);
-        in_order = order_access (stripe_at q) may k (stripe_at q k) e k reasons weak on.before refl its access allowed on.pass;
-        went = on.went;
+        made = made_in (stripe_at q k) (e ∷ on.went.before);
+        in_order = order_access (stripe_at q) may k (stripe_at q k) e k reasons weak on.went.before refl its access allowed on.went.pass;
+        went = on.went.went;
       })
 
   -- the piece whose access failed
-  pub record FailsBy (a : List Entry) (ended : Key) (f : PageFault) (p z : PagerSeen J) : Type 0 where
-    pub failure : Entry
-    pub fails : Fails ended f.key f.faults failure
-    pub goes : GoesBy has_noted may a (failure ∷ []) p z
-
-  pub by_failure : (a : List Entry) (p q z : PagerSeen J) (k ended : Key) (reasons : Why → Bool) (weak : ServesBy may k reasons) (may_owe : Key → Bool) (f : PageFault) → IsSame p q → k ≡ ended → GoesBy has_noted may a [] p q → PieceFails 0 has_noted k reasons may_owe q z f → stripe_at q f.key ≡ stripe_at q k → FailsBy a ended f p z
-  by_failure a p q z k ended reasons weak may_owe f same at first fails stripe = elim fails [
-    | inl r ↦ record { failure = ReadFailed f.key f.faults; fails = inl (r.0 ∙ at, refl); goes = last (ReadFailed f.key f.faults) refl r.1 }
-    | inr w ↦ record { failure = WriteFailed f.key f.faults; fails = inr refl; goes = last (WriteFailed f.key f.faults) refl w.1 }
-  ]
+  pub by_failure : (a : List Entry) (p q z : PagerSeen J) (k : Key) (reasons : Why → Bool) (weak : ServesBy may k reasons) (f : PageFault) → IsSame p q → GoesBy has_noted may a [] p q → (x : PieceFaults has_noted k reasons f q z) → GoesBy has_noted may a (x.failure ∷ []) p z
+  by_failure a p q z k reasons weak f same first x =
+      subst (λ (es : List Entry). GoesBy has_noted may es (x.failure ∷ []) p z) (append-nil a)
+      (by_more a [] (x.failure ∷ []) p q z same first (record {
+        made = made_in (stripe_at q k) (x.failure ∷ x.went.before);
+        in_order = order_failure (stripe_at q) may f.key (stripe_at q k) x.failure k reasons weak x.went.before x.stripe its x.went.pass;
+        went = x.went.went;
+      }))
     where
-      last : (e : Entry) → key_of e ≡ Some f.key → WentToIn 0 has_noted (stripe_at q k) (serves k reasons) e q z → GoesBy has_noted may a (e ∷ []) p z
-      last e its went =
-          subst (λ (es : List Entry). GoesBy has_noted may es (e ∷ []) p z) (append-nil a)
-          (by_more a [] (e ∷ []) p q z same first (record {
-            made = made_in (stripe_at q k) (e ∷ went.before);
-            in_order = order_failure (stripe_at q) may f.key (stripe_at q k) e k reasons weak went.before stripe its went.pass;
-            went = went.went;
-          }))
+      its : key_of x.failure ≡ Some f.key
+      its = elim x.fails [ inl r ↦ ap key_of r.1 | inr w ↦ ap key_of w ]

@@ -30,6 +30,10 @@ pub core_there : {J : Type 0} (o : Option (StripeSeen J)) (c : Core) → core_in
 core_there None c e = absurd (cc)
 core_there (Some x) c e = (x, (refl, let same : x.core ≡ c = cc in same))
 
+setup_there : {J : Type 0} (o : Option (StripeSeen J)) (u : Setup) → option_map (λ (y : Core). y.setup) (core_in o) ≡ Some u → (x : StripeSeen J) × ((o ≡ Some x) × (x.core.setup ≡ u))
+setup_there None u e = absurd (cc)
+setup_there (Some x) u e = (x, (refl, let same : x.core.setup ≡ u = cc in same))
+
 module _ (layout : Layout) (gs : List Region) (rows : List (List LaneSeen)) (fit : FitLanes layout gs rows) where
   module _ {J : Type 0} (set : Settings) (set_layout : set.layout ≡ layout) (c : PagerConfig) (is : c ≡ record { layout = set.layout; faults = set.faults; high = set.high; low = set.low; shapes = c.shapes }) (journals : List J) (can : CanOpen c rows (length journals)) (p : PagerSeen J) (opened : IsOpened c rows journals p) (shapes : c.shapes.items ≡ map (shape_of layout.page_size) gs) (pages : has_whole_pages layout.page_size gs ≡ true) (small : (r : ℕ) → size_at gs r ≤ 1099511627776) where
     same : c.layout ≡ layout
@@ -43,18 +47,6 @@ module _ (layout : Layout) (gs : List Region) (rows : List (List LaneSeen)) (fit
 
     size_is : p.page_size ≡ layout.page_size
     size_is = opened.page_size ∙ ap (λ (l : Layout). l.page_size) same
-
-    shaped : IsShaped (spread_of layout) gs p
-    shaped = record {
-      some = omega (arith, layout.large_pages);
-      page_size = size_is;
-      stripes = opened.stripes ∙ ap (λ (l : Layout). l.stripes) same;
-      groups = λ q. refl;
-      shapes = shapes_are;
-      whole = λ r known. sym (sizes_whole layout.page_size gs pages r known) ∙ sym (ap (λ m. m * p.page_size) (pages_are r) ∙ ap (λ z. get_or (page_counts layout.page_size gs) r 0 * z) size_is);
-      small = small;
-      open_ = opened.open_;
-    }
 
     rows_len : length rows ≡ length p.stripes
     rows_len = can.stripes ∙ sym opened.stripes
@@ -101,6 +93,28 @@ module _ (layout : Layout) (gs : List Region) (rows : List (List LaneSeen)) (fit
         ∙ ap (λ (ss : List RegionShape). record (setup_at set p.shapes rows s) { shapes = ss; lanes = o.row }) (sym opened.shapes)
         ∙ ap (λ (ls : List LaneSeen). record (setup_at set p.shapes rows s) { lanes = ls }) (sym (get_or_from_slice_get rows s o.row [] o.row_is)) in
         ap (λ (x : Option (StripeSeen J)). option_map (λ (y : Core). y.setup) (core_in x)) o.stripe_is_ ∙ ap (λ (y : Core). Some y.setup) o.as_made.core ∙ ap (λ (x : Setup). Some x) its
+
+    -- each stripe has the regions
+    known : (s : ℕ) (u : Setup) → pagers.setup_at p s ≡ Some u → setups.regions u ≡ length gs
+    known s u e =
+        let x = setup_there (slice_get p.stripes s) u e in
+        let o = open_at s (omega (arith, rows_len, slice_get_within p.stripes s x.0 x.1.0)) in
+        let its : o.stripe ≡ x.0 = let two : Some o.stripe ≡ Some x.0 = sym o.stripe_is_ ∙ x.1.0 in cc in
+        ap setups.regions (sym x.1.1 ∙ ap (λ (y : StripeSeen J). y.core.setup) (sym its) ∙ ap (λ (y : Core). y.setup) o.as_made.core)
+        ∙ ap length shapes ∙ length-map gs (shape_of layout.page_size)
+
+    shaped : IsShaped (spread_of layout) gs p
+    shaped = record {
+      some = omega (arith, layout.large_pages);
+      some_stripe = omega (arith, layout.some_stripe);
+      page_size = size_is;
+      stripes = opened.stripes ∙ ap (λ (l : Layout). l.stripes) same;
+      groups = λ q. refl;
+      shapes = shapes_are;
+      whole = λ r known. sym (sizes_whole layout.page_size gs pages r known) ∙ sym (ap (λ m. m * p.page_size) (pages_are r) ∙ ap (λ z. get_or (page_counts layout.page_size gs) r 0 * z) size_is);
+      small = small;
+      known = known;
+    }
 
     pub opens_on : OpensOn set gs rows journals p
     opens_on = record {

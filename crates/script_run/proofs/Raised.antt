@@ -19,12 +19,11 @@ use Rattle.page_model.specs.Laws.{DirtyIsRaised, raises_for_store}
 use Rattle.page_model.specs.Legal.{IsLegal, MayFollow}
 use Rattle.page_model.specs.Setups.{Setup}
 use Rattle.region_table.specs.Covers.{IsNext, PiecesFollow}
-use Rattle.workload_text.specs.Line.{Line, map_line, script_line, load_line, store_line}
+use Rattle.workload_text.specs.Line.{Line, load_line, store_line, flush_line, unmap_line}
 use Rattle.flat_lines.specs.Spreads.{Spread, stripe_in, piece_key}
 use Rattle.script_run.specs.FitsSerial.{StoresTo, AnyStoresTo, EndsAt, Names}
-use Rattle.script_run.specs.FromJournals.{IsOfKind, AllOfKind}
 use Rattle.script_run.specs.LineEntries.{stores_to, may_make, Fails, Makes, AllMake}
-use Rattle.script_run.specs.Replies.{Reply, nothing, begun, loaded, ok, fault}
+use Rattle.script_run.specs.Replies.{Reply, unmapped, fault}
 use Rattle.page_model.specs.Pieces.{AreBefore}
 use Rattle.region_table.specs.Pieces.{pieces_of}
 use Rattle.script_run.proofs.Allowed.{same_key}
@@ -42,8 +41,8 @@ make_tail t s u (x ∷ ls) [] behind all m l = absurd m
 make_tail t s u (x ∷ ls) (a ∷ more) behind all m l = legal_tail u (m.0 s) (behind s) (make_tail t s u ls more (λ n. m.0 n ++ behind n) all m.2 l)
 
 -- a stripe where a line's failure lies made it last
-pub failed_last : (t : Spread) (l : Line) (a : Reply) (made : ℕ → List Entry) (m : Makes t l a made) (e : Entry) (s : ℕ) → m.failure ≡ e ∷ [] → lies_in (stripe_in t) s (key_of e) ≡ true → made s ≡ e ∷ m.in_order.served s
-failed_last t l a made m e s is at = m.in_order.made_are s ∙ ap (λ xs. of_stripe (stripe_in t) s xs ++ m.in_order.served s) is ∙ ap (λ b. cond b (e ∷ []) [] ++ m.in_order.served s) at
+pub failed_last : (t : Spread) (l : Line) (a : Reply) (made : ℕ → List Entry) (behind : ℕ → List Entry) (m : Makes t l a behind made) (e : Entry) (s : ℕ) → m.failure ≡ e ∷ [] → lies_in (stripe_in t) s (key_of e) ≡ true → made s ≡ e ∷ m.in_order.served s
+failed_last t l a made behind m e s is at = m.in_order.made_are s ∙ ap (λ xs. of_stripe (stripe_in t) s xs ++ m.in_order.served s) is ∙ ap (λ b. cond b (e ∷ []) [] ++ m.in_order.served s) at
 
 -- ---- a write that fails is of a page that was raised for a store
 
@@ -132,7 +131,7 @@ failure_raises k stripe s failure rest (inr x) r = one x.0 (lies_in stripe s (ke
 abbrev pub RaisedAreStored : ℕ → List Line → (ℕ → List Entry) → Type 0
 RaisedAreStored z lines es = (s : ℕ) (k : Key) → was_raised k (by 0 (es s)) ≡ true → AnyStoresTo z lines k
 
-module _ (t : Spread) (l : Line) (a : Reply) (before : List Line) (made behind : ℕ → List Entry) (m : Makes t l a made) (stored : RaisedAreStored t.page_size before behind) where
+module _ (t : Spread) (l : Line) (a : Reply) (before : List Line) (made behind : ℕ → List Entry) (m : Makes t l a behind made) (stored : RaisedAreStored t.page_size before behind) where
   served_stored : (s : ℕ) (k : Key) → was_raised k (by 0 (m.in_order.served s ++ behind s)) ≡ true → AnyStoresTo t.page_size (l ∷ before) k
   served_stored s k r = elim (served_raised t.page_size l k (m.in_order.served s) (behind s) (m.in_order.serve s) r) [
     | inl here ↦ inl (stores_is t.page_size k l here)
@@ -144,12 +143,16 @@ module _ (t : Spread) (l : Line) (a : Reply) (before : List Line) (made behind :
       let split : made s ++ behind s ≡ of_stripe (stripe_in t) s m.failure ++ (m.in_order.served s ++ behind s) = ap (λ es. es ++ behind s) (m.in_order.made_are s) ∙ append_assoc (of_stripe (stripe_in t) s m.failure) (m.in_order.served s) (behind s) in
       served_stored s k (failure_raises k (stripe_in t) s m.failure (m.in_order.served s ++ behind s) (failure_is t l a m.failure m.failure_is) (subst (λ es. was_raised k (by 0 es) ≡ true) split r))
 
--- ---- faults
+-- ---- where lines end
 
--- where a fault ends its line, and which page it names
+-- where a load or a store ends, and which page a fault names
 abbrev pub EndsWell : Spread → (lines : List Line) → Line → Reply → Type 0
+EndsWell t lines (load_line r off len) (unmapped done) = EndsAt t.page_size off len done
 EndsWell t lines (load_line r off len) (fault k count done) = EndsAt t.page_size off len done × Names t lines r (off + done) k
+EndsWell t lines (store_line r off bytes) (unmapped done) = EndsAt t.page_size off (length bytes) done
 EndsWell t lines (store_line r off bytes) (fault k count done) = EndsAt t.page_size off (length bytes) done × Names t lines r (off + done) k
+EndsWell t lines flush_line (fault k count done) = AnyStoresTo t.page_size lines k
+EndsWell t lines (unmap_line r) (fault k count done) = AnyStoresTo t.page_size lines k
 EndsWell t lines l a = Unit {0}
 
 abbrev pub AllEndWell : Spread → (before : List Line) → List Line → List Reply → Type 0
@@ -162,35 +165,39 @@ module _ (follow : PiecesFollow) (law : DirtyIsRaised) (t : Spread) (some_byte :
       let next : IsNext t.page_size r off len done before.next = follow.next t.page_size r off len done ps before.rest before.next some_byte before.all_are before.bytes in
       record { short = omega (arith, next.short, next.at.some); border = border_is t.page_size r off len done before.next next }
 
-  fault_names : (l : Line) (a : Reply) (before : List Line) (r at : ℕ) (k : Key) (count : ℕ) (made behind : ℕ → List Entry) (m : Makes t l a made) (e : Entry) → m.failure ≡ e ∷ [] → Fails (piece_key t.page_size r at) k count e → stripe_in t k ≡ stripe_in t (piece_key t.page_size r at)
-      → ((s : ℕ) → s < t.stripes → IsLegal (setups s) (by 0 (made s ++ behind s))) → RaisedAreStored t.page_size before behind → Names t (l ∷ before) r at k
-  fault_names l a before r at k count made behind m e is (inl read) stripe legal stored = inl read.0
-  fault_names l a before r at k count made behind m e is (inr write) stripe legal stored =
-      let s : ℕ = stripe_in t k in
-      let made_is = failed_last t l a made m e s is (ap (λ (x : Entry). lies_in (stripe_in t) s (key_of x)) write ∙ eq-eqb (stripe_in t k) (stripe_in t k) refl) in
-      let last : IsLegal (setups s) (by 0 (WriteFailed k count ∷ (m.in_order.served s ++ behind s))) = subst (λ (x : Entry). IsLegal (setups s) (by 0 (x ∷ (m.in_order.served s ++ behind s)))) write (subst (λ es. IsLegal (setups s) (by 0 (es ++ behind s))) made_is (legal s (mod_below (k.region + k.page / t.group_of k.region) t.stripes some_stripe))) in
-      inr (stripe, served_stored t l a before made behind m stored s k (failed_raised law (setups s) (by 0 (m.in_order.served s ++ behind s)) k count last.0 last.2))
+  module _ (l : Line) (a : Reply) (before : List Line) (made behind : ℕ → List Entry) (m : Makes t l a behind made) (legal : (s : ℕ) → s < t.stripes → IsLegal (setups s) (by 0 (made s ++ behind s))) (stored : RaisedAreStored t.page_size before behind) where
+    -- a failed write is of a page that was stored to
+    write_names : (k : Key) (count : ℕ) → m.failure ≡ WriteFailed k count ∷ [] → AnyStoresTo t.page_size (l ∷ before) k
+    write_names k count is =
+        let s : ℕ = stripe_in t k in
+        let made_is = failed_last t l a made behind m (WriteFailed k count) s is (eq-eqb (stripe_in t k) (stripe_in t k) refl) in
+        let last : IsLegal (setups s) (by 0 (WriteFailed k count ∷ (m.in_order.served s ++ behind s))) = subst (λ es. IsLegal (setups s) (by 0 (es ++ behind s))) made_is (legal s (mod_below (k.region + k.page / t.group_of k.region) t.stripes some_stripe)) in
+        served_stored t l a before made behind m stored s k (failed_raised law (setups s) (by 0 (m.in_order.served s ++ behind s)) k count last.0 last.2)
 
-  ends_one : (l : Line) (a : Reply) (before : List Line) (made behind : ℕ → List Entry) → IsOfKind l a → Makes t l a made → ((s : ℕ) → s < t.stripes → IsLegal (setups s) (by 0 (made s ++ behind s))) → RaisedAreStored t.page_size before behind → EndsWell t (l ∷ before) l a
-  ends_one (load_line r off len) (fault k count done) before made behind kind m legal stored =
+    fault_names : (r at : ℕ) (k : Key) (count : ℕ) (e : Entry) → m.failure ≡ e ∷ [] → Fails (piece_key t.page_size r at) k count e → stripe_in t k ≡ stripe_in t (piece_key t.page_size r at) → Names t (l ∷ before) r at k
+    fault_names r at k count e is (inl read) stripe = inl read.0
+    fault_names r at k count e is (inr write) stripe = inr (stripe, write_names k count (is ∙ ap (λ x. x ∷ []) write))
+
+  ends_one : (l : Line) (a : Reply) (before : List Line) (made behind : ℕ → List Entry) → Makes t l a behind made → ((s : ℕ) → s < t.stripes → IsLegal (setups s) (by 0 (made s ++ behind s))) → RaisedAreStored t.page_size before behind → EndsWell t (l ∷ before) l a
+  ends_one (load_line r off len) (unmapped done) before made behind m legal stored = let acc = m.accesses_are in ends_at r off len done acc.0 acc.2
+  ends_one (load_line r off len) (fault k count done) before made behind m legal stored =
       let f = m.failure_is in
       let acc = m.accesses_are in
-      (ends_at r off len done acc.0 acc.2, fault_names (load_line r off len) (fault k count done) before r (off + done) k count made behind m f.0 f.1 f.2 m.in_stripe legal stored)
-  ends_one (store_line r off bytes) (fault k count done) before made behind kind m legal stored =
+      (ends_at r off len done acc.0 acc.2, fault_names (load_line r off len) (fault k count done) before made behind m legal stored r (off + done) k count f.0 f.1 f.2 m.goes.stripe)
+  ends_one (store_line r off bytes) (unmapped done) before made behind m legal stored = let acc = m.accesses_are in ends_at r off (length bytes) done acc.0 acc.1
+  ends_one (store_line r off bytes) (fault k count done) before made behind m legal stored =
       let f = m.failure_is in
       let acc = m.accesses_are in
-      (ends_at r off (length bytes) done acc.0 acc.1, fault_names (store_line r off bytes) (fault k count done) before r (off + done) k count made behind m f.0 f.1 f.2 m.in_stripe legal stored)
-  ends_one (load_line r off len) (loaded bytes) before made behind kind m legal stored = tt
-  ends_one (store_line r off bytes) ok before made behind kind m legal stored = tt
-  ends_one (map_line name backing size writable) nothing before made behind kind m legal stored = tt
-  ends_one (script_line name) (begun said) before made behind kind m legal stored = tt
-  ends_one l a before made behind kind m legal stored = absurd kind
+      (ends_at r off (length bytes) done acc.0 acc.1, fault_names (store_line r off bytes) (fault k count done) before made behind m legal stored r (off + done) k count f.0 f.1 f.2 m.goes.stripe)
+  ends_one flush_line (fault k count done) before made behind m legal stored = write_names flush_line (fault k count done) before made behind m legal stored k count m.failure_is
+  ends_one (unmap_line r) (fault k count done) before made behind m legal stored = write_names (unmap_line r) (fault k count done) before made behind m legal stored k count m.failure_is
+  ends_one l a before made behind m legal stored = tt
 
-  pub all_end : (before ls : List Line) (replies : List Reply) (behind all : ℕ → List Entry) → AllOfKind ls replies → AllMake t ls replies behind all → ((s : ℕ) → s < t.stripes → IsLegal (setups s) (by 0 (all s))) → RaisedAreStored t.page_size before behind → AllEndWell t before ls replies
-  all_end before [] [] behind all kinds m legal stored = tt
-  all_end before [] (a ∷ more) behind all kinds m legal stored = absurd m
-  all_end before (l ∷ ls) [] behind all kinds m legal stored = absurd m
-  all_end before (l ∷ ls) (a ∷ more) behind all kinds m legal stored = (
-    ends_one l a before m.0 behind kinds.0 m.1 (λ s below. make_tail t s (setups s) ls more (λ n. m.0 n ++ behind n) all m.2 (legal s below)) stored,
-    all_end (l ∷ before) ls more (λ n. m.0 n ++ behind n) all kinds.1 m.2 legal (more_stored t l a before m.0 behind m.1 stored),
+  pub all_end : (before ls : List Line) (replies : List Reply) (behind all : ℕ → List Entry) → AllMake t ls replies behind all → ((s : ℕ) → s < t.stripes → IsLegal (setups s) (by 0 (all s))) → RaisedAreStored t.page_size before behind → AllEndWell t before ls replies
+  all_end before [] [] behind all m legal stored = tt
+  all_end before [] (a ∷ more) behind all m legal stored = absurd m
+  all_end before (l ∷ ls) [] behind all m legal stored = absurd m
+  all_end before (l ∷ ls) (a ∷ more) behind all m legal stored = (
+    ends_one l a before m.0 behind m.1 (λ s below. make_tail t s (setups s) ls more (λ n. m.0 n ++ behind n) all m.2 (legal s below)) stored,
+    all_end (l ∷ before) ls more (λ n. m.0 n ++ behind n) all m.2 legal (more_stored t l a before m.0 behind m.1 stored),
   )

@@ -1,12 +1,14 @@
 -- Loops over items of a workload, each of which is some lines.
-use Rattle.std.proofs.Common.{◌≡◌, ℕ, ◌+◌, ◌*◌, ◌<◌, ◌||◌, Bool, true, false, List, [], ◌∷◌, ◌++◌, length, take, drop, map, get_or, refl, sym, ap, subst, ◌∙◌, arith, append_assoc, append-nil}
+use Rattle.std.proofs.Common.{◌≡◌, ℕ, ◌+◌, ◌*◌, ◌<◌, ◌||◌, Bool, true, false, List, [], ◌∷◌, ◌++◌, length, take, drop, map, get_or, slice_get, refl, sym, ap, subst, ◌∙◌, arith, append_assoc, append-nil}
 use Rattle.std.specs.List.{flat_map}
 use Rattle.std.proofs.lemmas.Bool.{and_parts, and_from}
 use Rattle.std.proofs.lemmas.List.{take-append-drop, drop_more, take_more}
 use Rattle.std.proofs.lemmas.List.Concat.{flat_map-append}
 use Rattle.histories.specs.Histories.{History}
+use Rattle.page_base.specs.declared.keys.RegionShape.{RegionShape}
 use Rattle.page_model.specs.declared.entry.Entry.{Entry}
-use Rattle.serial_pager.specs.Pagers.{PagerSeen, IsSame}
+use Rattle.page_model.specs.Setups.{pages_of}
+use Rattle.serial_pager.specs.Pagers.{PagerSeen}
 use Rattle.workload_text.specs.Line.{Line}
 use Rattle.workload_text.specs.Grammar.{Region}
 use Rattle.workload_text.specs.Accepted.{AllFit}
@@ -16,11 +18,9 @@ use Rattle.workload_text.specs.declared.workload.MapLine.{MapLine}
 use Rattle.script_run.specs.Replies.{nothing}
 use Rattle.flat_lines.specs.Spreads.{Spread}
 use Rattle.script_run.specs.InsideRanges.{pages_at}
-use Rattle.script_run.specs.InsideRunning.{IsShaped, MayRun, Ran}
+use Rattle.script_run.specs.InsideRunning.{IsShaped, StaysMade, MayRun, Ran}
 use Rattle.script_run.specs.declared.replies.Replies.{Replies}
-use Rattle.script_run.proofs.Makings.{all_none}
-use Rattle.script_run.proofs.Ranged.{same_pages, goes_none}
-use Rattle.script_run.proofs.RanLines.{ran_none, ran_more, ran_one, makes_none, rooms-append, bytes-append, commands-append}
+use Rattle.script_run.proofs.RanLines.{ran_none, ran_more, ran_one, did_nothing, rooms-append, bytes-append, commands-append}
 
 AllFit-split : (gs : List Region) (xs ys : List Line) → AllFit gs (xs ++ ys) → AllFit gs xs × AllFit gs ys
 AllFit-split gs [] ys h = (tt, h)
@@ -34,16 +34,17 @@ built-split (x ∷ xs) ys h =
     (and_from (is_built_line x) (is_built xs) p.0 s.0, s.1)
 
 module _ {J : Type 0} (t : Spread) (gs : List Region) where
-  pub shaped_same : (p q : PagerSeen J) → IsShaped t gs p → IsSame p q → IsShaped t gs q
+  pub shaped_same : (p q : PagerSeen J) → IsShaped t gs p → StaysMade p q → IsShaped t gs q
   shaped_same p q h s = record {
     some = h.some;
+    some_stripe = h.some_stripe;
     page_size = s.page_size ∙ h.page_size;
     stripes = s.stripes ∙ h.stripes;
     groups = h.groups;
     shapes = s.shapes ∙ h.shapes;
-    whole = λ r below. h.whole r below ∙ ap (λ n. n * p.page_size) (sym (same_pages p q s r)) ∙ ap (λ z. pages_at q r * z) (sym s.page_size);
+    whole = λ r below. h.whole r below ∙ ap (λ (ss : List RegionShape). pages_of (slice_get ss r) * p.page_size) (sym s.shapes) ∙ ap (λ z. pages_at q r * z) (sym s.page_size);
     small = h.small;
-    open_ = λ r t. s.closes r t ∙ h.open_ r t;
+    known = λ n u e. h.known n u (sym (s.setups n) ∙ e);
   }
 
   pub may_first : (xs ys : List Line) (r : Replies) (p : PagerSeen J) → MayRun t gs (xs ++ ys) r p → MayRun t gs xs r p
@@ -61,7 +62,7 @@ module _ {J : Type 0} (has_noted : J → History Entry → Type 0) (t : Spread) 
   may_rest xs ys r0 r1 p q m ran = record {
     built = (built-split xs ys m.built).1;
     fit = (AllFit-split gs xs ys m.fit).1;
-    shaped = shaped_same t gs p q m.shaped ran.same;
+    shaped = shaped_same t gs p q m.shaped ran.did.same;
     room = omega (arith, m.room, ran.spare, rooms-append gs xs ys);
     few = omega (arith, m.few, ran.loaded, ran.within, bytes-append xs ys);
     pieces = omega (arith, m.pieces, ran.pieces, commands-append xs ys);
@@ -94,8 +95,8 @@ module _ {J : Type 0} (has_noted : J → History Entry → Type 0) (t : Spread) 
   -- `map` lines say nothing
   ran_map : (m : MapLine) (r : Replies) (p : PagerSeen J) → Ran has_noted t gs (region_line m ∷ []) r r p p
   ran_map m r p =
-      ran_one has_noted t gs (region_line m) nothing 0 r r p p (sym (append-nil r.text.items)) (omega arith) (omega arith) (omega arith) (omega arith) (or_none r.faulted)
-      tt (goes_none p) (omega arith) (λ s. []) (all_none has_noted p) (makes_none t (region_line m) nothing refl refl tt)
+      ran_one has_noted t gs (region_line m) nothing r r p p (sym (append-nil r.text.items)) (omega arith) (omega arith) (omega arith) (omega arith) (or_none r.faulted)
+      (omega arith) (did_nothing has_noted t (region_line m) nothing p refl refl (λ older. tt))
     where
       or_none : (x : Bool) → x ≡ (x || false)
       or_none true = refl

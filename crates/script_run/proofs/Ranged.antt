@@ -10,10 +10,10 @@ use Rattle.page_model.specs.Pieces.{bytes_in}
 use Rattle.region_table.specs.Covers.{IsNext}
 use Rattle.region_table.specs.Pieces.{pieces_of}
 use Rattle.page_base.specs.declared.keys.Piece.{Piece}
-use Rattle.serial_pager.specs.declared.fault.PageFault.{PageFault}
-use Rattle.serial_pager.specs.Pagers.{PagerSeen, closes_at, group_in, region_has_page, has_key, stripe_at, IsPiece, IsSame}
-use Rattle.flat_lines.specs.Spreads.{range_key, piece_key}
-use Rattle.script_run.specs.InsideRanges.{pages_at, IsRange, RangeGoesOn, FaultsAt}
+use Rattle.serial_pager.specs.Pagers.{PagerSeen, group_in, region_has_page, has_key, stripe_at, IsSame, ClosesOnly}
+use Rattle.flat_lines.specs.Spreads.{range_key}
+use Rattle.script_run.specs.InsideRanges.{pages_at, IsRange, IsPart, RangeGoesOn}
+use Rattle.script_run.specs.InsideRunning.{StaysMade}
 use Rattle.script_run.proofs.Lists.{rows_apart}
 
 pub page_in_of : (o : Option RegionShape) (page : ℕ) → page < pages_of o → region_has_page o page ≡ true
@@ -47,6 +47,22 @@ same_none p = record { page_size = refl; shapes = refl; stripes = refl; setups =
 
 pub same_more : {J : Type 0} (p q z : PagerSeen J) → IsSame p q → IsSame q z → IsSame p z
 same_more p q z a b = record { page_size = b.page_size ∙ a.page_size; shapes = b.shapes ∙ a.shapes; stripes = b.stripes ∙ a.stripes; setups = λ s. b.setups s ∙ a.setups s; closes = λ s r. b.closes s r ∙ a.closes s r }
+
+-- ---- the stripes as they were made
+
+pub stays_none : {J : Type 0} (p : PagerSeen J) → StaysMade p p
+stays_none p = record { page_size = refl; shapes = refl; stripes = refl; setups = λ s. refl }
+
+pub stays_more : {J : Type 0} (p q z : PagerSeen J) → StaysMade p q → StaysMade q z → StaysMade p z
+stays_more p q z a b = record { page_size = b.page_size ∙ a.page_size; shapes = b.shapes ∙ a.shapes; stripes = b.stripes ∙ a.stripes; setups = λ s. b.setups s ∙ a.setups s }
+
+pub stays_same : {J : Type 0} (p q : PagerSeen J) → IsSame p q → StaysMade p q
+stays_same p q s = record { page_size = s.page_size; shapes = s.shapes; stripes = s.stripes; setups = s.setups }
+
+pub stays_closing : {J : Type 0} (r : ℕ) (p q : PagerSeen J) → ClosesOnly r p q → StaysMade p q
+stays_closing r p q s = record { page_size = s.page_size; shapes = s.shapes; stripes = s.stripes; setups = s.setups }
+
+-- ---- how far a range goes
 
 pub goes_none : {J : Type 0} (p : PagerSeen J) → RangeGoesOn 0 p p
 goes_none p = record { same = same_none p; spent = omega arith }
@@ -93,21 +109,9 @@ module _ (size region off len done : ℕ) (piece : Piece) (next : IsNext size re
     pub has_piece : has_key p piece.key ≡ true
     has_piece = ap (has_key p) key_is ∙ page_in_of (slice_get p.shapes region) piece.key.page page_below
 
-    pub is_piece : IsPiece q piece.key piece.place piece.len
-    is_piece = record {
+    pub is_part : IsPart q piece.key piece.place piece.len
+    is_part = record {
       page = same_page p q s piece.key ∙ has_piece;
-      open_ = s.closes (stripe_at q piece.key) piece.key.region ∙ (ap (closes_at p (stripe_at q piece.key)) next.at.of_region ∙ range.open_ (stripe_at q piece.key));
       some = next.at.some;
       within = subst (λ z. piece.place + piece.len ≤ z) (sym (s.page_size ∙ sized)) next.at.within;
-    }
-
--- ---- faults
-
-pub faults_at : {J : Type 0} (p q : PagerSeen J) (region off len done size : ℕ) (piece : Piece) (f : PageFault) → IsNext size region off len done piece → IsSame p q → p.page_size ≡ size → has_key q f.key ≡ true → stripe_at q f.key ≡ stripe_at q piece.key → FaultsAt p region off done f
-faults_at p q region off len done size piece f next same sized page stripe =
-    let key : Key = piece_key p.page_size region (off + done) in
-    let its : piece.key ≡ key = key_is size region off len done piece next ∙ ap (range_key region) (sym (page_is size region off len done piece next)) ∙ ap (λ n. range_key region ((off + done) / n)) (sym sized) in
-    record {
-      page = sym (same_page p q same f.key) ∙ page;
-      stripe = sym (same_stripe p q same f.key) ∙ stripe ∙ ap (stripe_at q) its ∙ same_stripe p q same key;
     }

@@ -6,7 +6,7 @@ use Rattle.page_base.specs.Backings.{in_memory, in_file}
 use Rattle.page_base.specs.declared.keys.RegionShape.{RegionShape}
 use Rattle.region_table.specs.Regions.{TableSeen, shapes_of, lengths_of, page_count}
 use Rattle.serial_pager.specs.Pagers.{PagerSeen}
-use Rattle.workload_text.specs.Line.{Line, map_line, script_line, load_line, store_line}
+use Rattle.workload_text.specs.Line.{Line, map_line, script_line, load_line, store_line, flush_line, unmap_line}
 use Rattle.workload_text.specs.Grammar.{size_at}
 use Rattle.workload_text.specs.Accepted.{regions_of}
 use Rattle.workload_text.specs.Built.{is_built, is_built_line}
@@ -35,6 +35,8 @@ shapes_are z (map_line name (in_file path) size writable ∷ ls) h = ap (λ (ss 
 shapes_are z (script_line name ∷ ls) h = shapes_are z ls h
 shapes_are z (load_line n off len ∷ ls) h = shapes_are z ls h
 shapes_are z (store_line n off bytes ∷ ls) h = shapes_are z ls h
+shapes_are z (flush_line ∷ ls) h = shapes_are z ls h
+shapes_are z (unmap_line r ∷ ls) h = shapes_are z ls h
 shapes_are z (l ∷ ls) h = absurd (cc)
 
 -- a table has few pages, so its regions have

@@ -1,5 +1,5 @@
 -- What follows from a run's meaning with faults, as statements.
-use Rattle.std.specs.Prelude.{◌≡◌, ℕ, ◌<◌, Bool, true, false, List, length, map}
+use Rattle.std.specs.Prelude.{◌≡◌, ℕ, ◌<◌, Bool, true, false, List, ◌++◌, length, map}
 use Rattle.std.specs.List.{list_any}
 use Rattle.histories.specs.Histories.{History, by}
 use Rattle.page_base.specs.declared.keys.Key.{Key}
@@ -8,8 +8,9 @@ use Rattle.page_base.specs.Pages.{same}
 use Rattle.page_model.specs.declared.entry.Entry.{Entry}
 use Rattle.page_model.specs.declared.entry.Entry.TheVariants.{Written}
 use Rattle.page_model.specs.Bits.{is_dirty}
+use Rattle.page_model.specs.Closings.{is_unmapped}
 use Rattle.region_table.specs.Regions.{TableSeen}
-use Rattle.serial_pager.specs.Writings.{is_failed_write_of}
+use Rattle.serial_pager.specs.Writings.{is_failed_write, is_failed_write_of}
 use Rattle.workload_text.specs.Line.{Line, TextLine}
 use Rattle.page_base.specs.ListSeen.{ListSeen}
 use Rattle.page_base.specs.declared.layout.Layout.{Layout}
@@ -40,11 +41,11 @@ pub record IsSerial (lines : List Line) (rows ends : List (List LaneSeen)) (text
   pub text_is : text ≡ serial_text (contents_of rows) lines
   pub contents : (r : ℕ) → r < length (regions_of lines) → bytes_at (contents_of ends) r ≡ bytes_at (serial_end (contents_of rows) lines) r
 
--- where no line names a fault and no last write failed, the run is the serial one
+-- where no line names a fault and the last unmapping didn't fail, the run is the serial one
 abbrev pub WithoutFaults : Type 0
 WithoutFaults =
     (t : Spread) (lines : List Line) (rows ends : List (List LaneSeen)) (e : EndSeen)
-    → FitsSerial t lines rows ends e → AllTold rows → e.faulted ≡ false → IsSerial lines rows ends e.text
+    → 0 < t.stripes → FitsSerial t lines rows ends e → AllTold rows → e.faulted ≡ false → IsSerial lines rows ends e.text
 
 -- a run over lanes in memory answers the serial text
 abbrev pub MemoryRunsAreSerial : Type 0
@@ -65,11 +66,22 @@ abbrev pub is_written : Key → Entry → Bool
 is_written k (Written j at bytes) = same j k
 is_written k e = false
 
--- where the lines leave a page dirty, the last writes of its stripe write it, unless one failed in its region: so what the
--- journals have noted refuses a run that ends without them, whatever its lanes hold
-abbrev pub DirtyIsWritten : {J : Type 0} → (has_noted : J → History Entry → Type 0) → Type 0
-DirtyIsWritten {J} has_noted =
-    (c : Settings) (table : TableSeen) (lines : List Line) (rows ends : List (List LaneSeen)) (replies : List Reply) (failed : Bool) (journals : List J) (s : ℕ) (k : Key)
-    → (f : FitsJournals has_noted c table lines rows ends replies failed journals)
-    → s < c.layout.stripes → is_dirty (by 0 (f.by_lines s)) k ≡ true → list_any (is_failed_write_of k.region) (f.last s) ≡ false
-    → list_any (is_written k) (f.last s) ≡ true
+-- no last write of the region failed, in whatever stripe
+abbrev pub NoneFailed : (region : ℕ) → (last : ℕ → List Entry) → Type 0
+NoneFailed r last = (n : ℕ) → list_any (is_failed_write_of r) (last n) ≡ false
+
+-- A region of which no last write failed is unmapped in the end, in every stripe, and what the lines left dirty of it was
+-- written; and where the last unmapping failed, a write failed in it. So what the journals have noted refuses a run that ends
+-- without, whatever its lanes hold.
+pub record LastUnmaps {J : Type 0} (has_noted : J → History Entry → Type 0) : Type 0 where
+  pub unmapped : (c : Settings) (table : TableSeen) (lines : List Line) (rows ends : List (List LaneSeen)) (replies : List Reply) (failed : Bool) (journals : List J) (s r : ℕ)
+      → (f : FitsJournals has_noted c table lines rows ends replies failed journals)
+      → s < c.layout.stripes → r < length table.regions → NoneFailed r f.last
+      → is_unmapped (by 0 (f.last s ++ f.by_lines s)) r ≡ true
+  pub written : (c : Settings) (table : TableSeen) (lines : List Line) (rows ends : List (List LaneSeen)) (replies : List Reply) (failed : Bool) (journals : List J) (s : ℕ) (k : Key)
+      → (f : FitsJournals has_noted c table lines rows ends replies failed journals)
+      → s < c.layout.stripes → k.region < length table.regions → is_dirty (by 0 (f.by_lines s)) k ≡ true → NoneFailed k.region f.last
+      → list_any (is_written k) (f.last s) ≡ true
+  pub failed : (c : Settings) (table : TableSeen) (lines : List Line) (rows ends : List (List LaneSeen)) (replies : List Reply) (journals : List J)
+      → (f : FitsJournals has_noted c table lines rows ends replies true journals)
+      → (s : ℕ) × (s < c.layout.stripes) × (list_any is_failed_write (f.last s) ≡ true)

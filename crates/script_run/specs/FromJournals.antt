@@ -1,41 +1,24 @@
 -- What a serial run shows follows from what its journals have noted, from its replies alone, and from the lanes that come back.
-use Rattle.std.specs.Prelude.{◌≡◌, ℕ, ◌<◌, ◌||◌, Bool, true, List, [], ◌∷◌, length, sum}
+use Rattle.std.specs.Prelude.{◌≡◌, ℕ, ◌<◌, ◌||◌, Bool, true, List, length, sum}
 use Rattle.std.specs.List.{flat_map, list_any}
 use Rattle.histories.specs.Histories.{History}
 use Rattle.page_base.specs.Lanes.{LaneSeen}
 use Rattle.page_model.specs.declared.entry.Entry.{Entry}
 use Rattle.page_model.specs.Setups.{Fits}
 use Rattle.region_table.specs.Regions.{TableSeen, shapes_of}
-use Rattle.workload_text.specs.Line.{Line, map_line, script_line, load_line, store_line}
+use Rattle.workload_text.specs.Line.{Line}
 use Rattle.workload_text.specs.Accepted.{AllFit, regions_of}
 use Rattle.workload_text.specs.Built.{is_built}
 use Rattle.script_run.specs.Contents.{origins_of}
 use Rattle.script_run.specs.Fits.{FitLanes}
 use Rattle.script_run.specs.FitsJournals.{setup_at, FitsJournals}
 use Rattle.script_run.specs.FitsSerial.{spread_of, EndSeen, FitsSerial}
-use Rattle.script_run.specs.Replies.{Reply, nothing, begun, loaded, ok, fault, replies_text, is_fault_reply, bytes_shown}
+use Rattle.script_run.specs.Replies.{Reply, replies_text, is_fault_reply, bytes_shown}
 use Rattle.script_run.specs.Tables.{table_of}
 use Rattle.script_run.specs.declared.settings.Settings.{Settings}
 
--- the reply is of a kind that the line may be answered with
-abbrev pub IsOfKind : Line → Reply → Type 0
-IsOfKind (map_line name backing size writable) nothing = Unit {0}
-IsOfKind (script_line name) (begun said) = said ≡ name
-IsOfKind (load_line r off len) (loaded bytes) = Unit {0}
-IsOfKind (load_line r off len) (fault k count done) = Unit {0}
-IsOfKind (store_line r off bytes) ok = Unit {0}
-IsOfKind (store_line r off bytes) (fault k count done) = Unit {0}
-IsOfKind l reply = ⊥
-
--- there is such a reply to each line
-abbrev pub AllOfKind : List Line → List Reply → Type 0
-AllOfKind [] [] = Unit {0}
-AllOfKind (l ∷ ls) (a ∷ more) = IsOfKind l a × AllOfKind ls more
-AllOfKind ls replies = ⊥
-
--- what a run shows of its replies and of its last writes, of which one failed or none did
+-- what a run shows of its replies, and of its last unmapping, which failed or didn't
 pub record IsShown (lines : List Line) (replies : List Reply) (failed : Bool) (e : EndSeen) : Type 0 where
-  pub kinds : AllOfKind lines replies
   pub text_is : e.text ≡ replies_text (regions_of lines) replies
   pub flag : e.faulted ≡ (list_any is_fault_reply replies || failed)
   pub loaded_is : e.loaded ≡ length (flat_map bytes_shown replies)
@@ -50,7 +33,7 @@ pub record IsGiven (c : Settings) (table : TableSeen) (lines : List Line) (rows 
   pub setups : (s : ℕ) → s < c.layout.stripes → Fits (setup_at c (shapes_of table) rows s)
   pub origins : origins_of ends ≡ origins_of rows
 
--- a run may end so, with these replies and these last writes
+-- a run may end so, with these replies and such a last unmapping
 abbrev pub FitsSo : Settings → List Line → (rows ends : List (List LaneSeen)) → List Reply → (failed : Bool) → EndSeen → Type 0
 FitsSo c lines rows ends replies failed e =
     (run : FitsSerial (spread_of c.layout) lines rows ends e) × (run.replies ≡ replies) × (run.failed ≡ failed)

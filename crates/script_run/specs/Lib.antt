@@ -1,5 +1,4 @@
 pub mod Serial
-pub mod InsideSerial
 pub mod Contents
 pub mod Fits
 pub mod Tables

@@ -44,7 +44,7 @@ ToldIsHeld =
     → FitLanes layout regions rows → r < length regions → length bytes ≡ size_at regions r → TellsBytes (spread_of layout) rows r bytes
     → (bytes_at (contents_of rows) r ≡ bytes) × (region_is_told rows r ≡ true)
 
--- where a line names a fault or a last write failed, the count of some lane rose
+-- where a line names a fault or the last unmapping failed, the count of some lane rose
 abbrev pub FlagIsCounted : Type 0
 FlagIsCounted =
     (t : Spread) (lines : List Line) (rows ends : List (List LaneSeen)) (e : EndSeen)

@@ -2,12 +2,17 @@
 //! call the laws that it rests on: its contract is the law.
 ghost use Rattle.script_run.specs.FlatJournals.{JournalsAreFlat};
 ghost use Rattle.script_run.specs.FromJournals.{FromJournals};
-ghost use Rattle.script_run.specs.FitsLaws.{WithoutFaults, MemoryRunsAreSerial, RegionsAreMaps, DirtyIsWritten};
+ghost use Rattle.script_run.specs.FitsLaws.{WithoutFaults, MemoryRunsAreSerial, RegionsAreMaps, LastUnmaps};
+ghost use Rattle.script_run.specs.InsideRunning.{StripesAgree};
 ghost use Rattle.script_run.specs.Tellings.{ToldIsHeld, FlagIsCounted};
 
 use flat_lines::laws::{bytes_by_pages, owners_are_flat};
 use histories::laws::calls_of_one;
-use page_model::laws::{clean_is_kept, dirty_is_raised, faults_are_counted as model_faults};
+use page_model::events::{pages_show, readers_agree};
+use page_model::laws::{
+    clean_is_kept, dirty_is_raised, faults_are_counted as model_faults, flush_laws,
+    unmapped_is_emptied,
+};
 use page_model::{Entry, Journal};
 use region_table::laws::{pieces_cover, pieces_follow};
 
@@ -36,10 +41,23 @@ pub fn faults_are_counted()
     ensures { FlagIsCounted }
 {}
 
-/// A page that the lines leave dirty is written at the end, by what the journals have noted alone.
-pub fn dirty_is_written<J: Journal>()
-    ensures { DirtyIsWritten J.has_noted }
-{}
+/// The last unmapping unmaps each region and writes what the lines left dirty, by what the journals have noted alone.
+pub fn last_unmaps<J: Journal>()
+    ensures { LastUnmaps J.has_noted }
+{
+    unmapped_is_emptied();
+}
+
+/// What stripes show is what their histories say: which pages are dirty, which regions close and are unmapped; and a flush that
+/// leaves no page dirty covers all stores before it.
+pub(crate) fn stripes_agree()
+    ensures { StripesAgree }
+{
+    readers_agree();
+    pages_show();
+    clean_is_kept();
+    flush_laws();
+}
 
 /// What lines load and what they leave follows from the histories of the stripes.
 pub fn journals_are_flat()
@@ -58,6 +76,7 @@ pub fn from_journals<J: Journal>()
     clean_is_kept();
     dirty_is_raised();
     model_faults();
+    unmapped_is_emptied();
     bytes_by_pages();
     journals_are_flat();
 }

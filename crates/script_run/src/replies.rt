@@ -117,6 +117,17 @@ impl Replies {
         self.text.put_all(b"ok\n");
     }
 
+    pub(crate) fn unmapped(&mut self)
+        requires room { 9 ≤ self.old.text.spare }
+        ensures text { self.new.text.items ≡ self.old.text.items ++ codes "unmapped\n" }
+        ensures spare { self.old.text.spare ≤ self.new.text.spare + 9 }
+        ensures loaded { self.new.loaded ≡ self.old.loaded }
+        ensures sum { self.new.sum ≡ self.old.sum }
+        ensures faulted { self.new.faulted ≡ self.old.faulted }
+    {
+        self.text.put_all(b"unmapped\n");
+    }
+
     /// A fault of a page of the region of this name, with the count of the page's lane.
     pub(crate) fn fault(&mut self, name: &[u8], page: u32, count: u64)
         requires room { length name.now + FAULT_ROOM ≤ self.old.text.spare }

@@ -2,30 +2,31 @@
 //!
 //! All memory is taken before the first line runs, so the only refusal comes at opening: it hands the lanes back, and leaves
 //! the journals in their list.
-ghost use Rattle.std.specs.Prelude.{◌≡◌, ◌+◌, ◌<◌, ◌≤◌, ◌||◌, ◌∷◌, ◌++◌, [], ℕ, Some, true, length, map, slice_get, IfOk, IfErr};
+ghost use Rattle.std.specs.Prelude.{◌≡◌, ◌+◌, ◌*◌, ◌^◌, ◌<◌, ◌≤◌, ◌||◌, ◌∷◌, ◌++◌, [], ℕ, Some, true, length, map, slice_get, IfOk, IfErr};
 ghost use Rattle.serial_pager.specs.Pagers.{rows_of, journals_made};
+ghost use Rattle.page_base.specs.declared.limits.TheConstants.{MOST_STRIPES};
+ghost use Rattle.workload_text.specs.Line.{load_line, store_line, flush_line, unmap_line};
 ghost use Rattle.workload_text.specs.View.{lines_of, script_lines, command_line};
 ghost use Rattle.workload_text.specs.Built.{is_built};
 ghost use Rattle.workload_text.specs.Accepted.{IsRunnable, regions_of};
 ghost use Rattle.script_run.specs.Fits.{LanesFit, AreInRange};
 ghost use Rattle.script_run.specs.Ends.{lanes_in, origins_in, FitsRun};
-ghost use Rattle.script_run.specs.InsideRooms.{fault_room, fault_of};
-ghost use Rattle.script_run.specs.InsideRunning.{MayRunOf, RanOf, RanOne};
+ghost use Rattle.script_run.specs.InsideRooms.{fault_room, fault_of, end_reply, unmap_reply, IsKnownEnd, IsKnownError};
+ghost use Rattle.script_run.specs.InsideRunning.{MayRunOf, RanOf, RanOne, UnmapsOne, UnmapsLast};
+ghost use Rattle.script_run.specs.Replies.{reply_text, is_fault_reply};
 ghost use Rattle.script_run.specs.Tables.{table_of};
 ghost use Rattle.script_run.specs.Tellings.{EndsTold};
 
-use crate::access::{load, store};
-use crate::laws::from_journals;
+use crate::access::{AccessEnd, load, store};
+use crate::laws::{from_journals, stripes_agree};
 use crate::opening::{open_pager, put_journals};
 use crate::replies::Replies;
 use crate::rooms::room_of;
 use crate::settings::Settings;
 use page_base::{Bytes, List};
 use page_model::Journal;
-use page_model::events::pages_show;
-use page_model::laws::clean_is_kept;
 use region_table::RegionTable;
-use serial_pager::{PageFault, SerialPager};
+use serial_pager::{PageFault, SerialPager, UnmapError};
 use std::alloc::Global;
 use store_trait::{LaneSet, Store};
 use workload_text::{Command, MOST_ACCESS_BYTES, Script, Workload};
@@ -42,6 +43,118 @@ fn tell_fault(replies: &mut Replies, workload: &Workload, fault: &PageFault)
 {
     let map = &workload.maps.as_slice()[fault.key.region as usize];
     replies.fault(map.name.as_slice(), fault.key.page, fault.faults);
+}
+
+/// Tells why an access of a range ended.
+fn tell_end(replies: &mut Replies, workload: &Workload, end: &AccessEnd)
+    requires region { IsKnownEnd (length (regions_of (lines_of workload.now))) end.now }
+    requires room { fault_room (regions_of (lines_of workload.now)) ≤ replies.old.text.spare }
+    ensures text { (done : ℕ) → replies.new.text.items
+        ≡ replies.old.text.items ++ reply_text (regions_of (lines_of workload.now)) (end_reply done end.now) }
+    ensures spare { replies.old.text.spare ≤ replies.new.text.spare + fault_room (regions_of (lines_of workload.now)) }
+    ensures loaded { replies.new.loaded ≡ replies.old.loaded }
+    ensures sum { replies.new.sum ≡ replies.old.sum }
+    ensures faulted { (done : ℕ) → replies.new.faulted
+        ≡ (replies.old.faulted || is_fault_reply (end_reply done end.now)) }
+{
+    match end {
+        AccessEnd::Unmapped => replies.unmapped(),
+        AccessEnd::Fault(fault) => tell_fault(replies, workload, fault),
+    }
+}
+
+/// Tells why a region wasn't unmapped.
+fn tell_error(replies: &mut Replies, workload: &Workload, error: &UnmapError)
+    requires region { IsKnownError (length (regions_of (lines_of workload.now))) error.now }
+    requires room { fault_room (regions_of (lines_of workload.now)) ≤ replies.old.text.spare }
+    ensures text { replies.new.text.items
+        ≡ replies.old.text.items ++ reply_text (regions_of (lines_of workload.now)) (unmap_reply error.now) }
+    ensures spare { replies.old.text.spare ≤ replies.new.text.spare + fault_room (regions_of (lines_of workload.now)) }
+    ensures loaded { replies.new.loaded ≡ replies.old.loaded }
+    ensures sum { replies.new.sum ≡ replies.old.sum }
+    ensures faulted { replies.new.faulted ≡ (replies.old.faulted || is_fault_reply (unmap_reply error.now)) }
+{
+    match error {
+        UnmapError::Unmapped => replies.unmapped(),
+        UnmapError::Fault(fault) => tell_fault(replies, workload, fault),
+    }
+}
+
+fn run_load<S: Store, J: Journal>(
+    replies: &mut Replies,
+    pager: &mut SerialPager<S, J>,
+    bytes: &mut [u8],
+    workload: &Workload,
+    table: &RegionTable,
+    region: u16,
+    off: u64,
+)
+    requires table { table.now ≡ table_of pager.old.page_size (lines_of workload.now) }
+    requires may { MayRunOf workload.now (load_line region off (length bytes.old) ∷ []) replies.old pager.old }
+    ensures ran { RanOf J.has_noted workload.now (load_line region off (length bytes.old) ∷ [])
+        replies.old replies.new pager.old pager.new }
+    ensures journals { journals_made J.made_with pager.new ≡ journals_made J.made_with pager.old }
+{
+    stripes_agree();
+    match load(pager, table, region, off, bytes) {
+        Ok(()) => replies.load(bytes),
+        Err(end) => tell_end(replies, workload, &end),
+    }
+}
+
+fn run_store<S: Store, J: Journal>(
+    replies: &mut Replies,
+    pager: &mut SerialPager<S, J>,
+    bytes: &[u8],
+    workload: &Workload,
+    table: &RegionTable,
+    region: u16,
+    off: u64,
+)
+    requires table { table.now ≡ table_of pager.old.page_size (lines_of workload.now) }
+    requires may { MayRunOf workload.now (store_line region off bytes.now ∷ []) replies.old pager.old }
+    ensures ran { RanOf J.has_noted workload.now (store_line region off bytes.now ∷ [])
+        replies.old replies.new pager.old pager.new }
+    ensures journals { journals_made J.made_with pager.new ≡ journals_made J.made_with pager.old }
+{
+    stripes_agree();
+    match store(pager, table, region, off, bytes) {
+        Ok(()) => replies.ok(),
+        Err(end) => tell_end(replies, workload, &end),
+    }
+}
+
+fn run_flush<S: Store, J: Journal>(
+    replies: &mut Replies,
+    pager: &mut SerialPager<S, J>,
+    workload: &Workload,
+)
+    requires may { MayRunOf workload.now (flush_line ∷ []) replies.old pager.old }
+    ensures ran { RanOf J.has_noted workload.now (flush_line ∷ []) replies.old replies.new pager.old pager.new }
+    ensures journals { journals_made J.made_with pager.new ≡ journals_made J.made_with pager.old }
+{
+    stripes_agree();
+    match pager.flush() {
+        Ok(()) => replies.ok(),
+        Err(fault) => tell_fault(replies, workload, &fault),
+    }
+}
+
+fn run_unmap<S: Store, J: Journal>(
+    replies: &mut Replies,
+    pager: &mut SerialPager<S, J>,
+    workload: &Workload,
+    region: u16,
+)
+    requires may { MayRunOf workload.now (unmap_line region ∷ []) replies.old pager.old }
+    ensures ran { RanOf J.has_noted workload.now (unmap_line region ∷ []) replies.old replies.new pager.old pager.new }
+    ensures journals { journals_made J.made_with pager.new ≡ journals_made J.made_with pager.old }
+{
+    stripes_agree();
+    match pager.unmap(region) {
+        Ok(()) => replies.ok(),
+        Err(error) => tell_error(replies, workload, &error),
+    }
 }
 
 fn run_command<S: Store, J: Journal>(
@@ -61,25 +174,27 @@ fn run_command<S: Store, J: Journal>(
     match command {
         Command::Load { region, off, len } => {
             let bytes = &mut buf[..*len as usize];
-            match load(pager, table, *region, *off, bytes) {
-                Ok(()) => replies.load(bytes),
-                Err(fault) => tell_fault(replies, workload, &fault),
-            }
+            run_load(replies, pager, bytes, workload, table, *region, *off);
         }
         Command::Store { region, off, bytes } => {
-            match store(pager, table, *region, *off, bytes.as_slice()) {
-                Ok(()) => replies.ok(),
-                Err(fault) => tell_fault(replies, workload, &fault),
-            }
+            run_store(
+                replies,
+                pager,
+                bytes.as_slice(),
+                workload,
+                table,
+                *region,
+                *off,
+            );
         }
+        Command::Flush => run_flush(replies, pager, workload),
+        Command::Unmap { region } => run_unmap(replies, pager, workload, *region),
         // No accepted text has one of these yet.
         Command::Prefetch {
             region: _,
             off: _,
             len: _,
         } => unreachable!(),
-        Command::Flush => unreachable!(),
-        Command::Unmap { region: _ } => unreachable!(),
     }
 }
 
@@ -128,7 +243,7 @@ fn run_scripts<S: Store, J: Journal>(
 pub struct SerialEnd<S> {
     /// The replies of all scripts, line by line.
     pub text: Bytes,
-    /// Whether a line of the text names a fault, or one of the last writes failed.
+    /// Whether a line of the text names a fault, or the last unmapping failed.
     pub faulted: bool,
     /// How many bytes were loaded, and their values added up.
     pub loaded: u64,
@@ -142,19 +257,60 @@ pub enum RunBack<S> {
     OutOfMemory { lanes: LaneSet<S> },
 }
 
-/// Whether a reply names a fault, or one of the last writes failed.
-fn is_faulted(replies: &Replies, failed: bool) -> bool
-    ensures { result ≡ (replies.now.faulted || failed) }
+/// Whether one of two holds.
+fn either(one: bool, other: bool) -> bool
+    ensures { result ≡ (one || other) }
 {
-    replies.faulted || failed
+    one || other
 }
 
-/// Runs the scripts one after another over these lanes, for whatever they hold at first, and writes all dirty pages at the
-/// end. The settings' layout says how pages are spread; `table` is the table of the workload's regions. Each entry of a
+/// Whether a region wasn't unmapped because a write failed.
+fn is_failed(error: &UnmapError) -> bool
+    ensures { result ≡ is_fault_reply (unmap_reply error.now) }
+{
+    match error {
+        UnmapError::Unmapped => false,
+        UnmapError::Fault(_) => true,
+    }
+}
+
+/// Unmaps a region at the end, and tells whether a write failed.
+fn unmap_region<S: Store, J: Journal>(pager: &mut SerialPager<S, J>, region: u16) -> bool
+    requires region { region < length pager.old.shapes }
+    requires few { pager.old.spent + MOST_STRIPES ≤ 2 ^ 44 }
+    ensures unmapped { UnmapsOne J.has_noted region result pager.old pager.new }
+    ensures spent { pager.new.spent ≡ pager.old.spent + MOST_STRIPES }
+    ensures journals { journals_made J.made_with pager.new ≡ journals_made J.made_with pager.old }
+{
+    stripes_agree();
+    match pager.unmap(region) {
+        Ok(()) => false,
+        Err(error) => is_failed(&error),
+    }
+}
+
+/// Unmaps each of so many regions, in order of number, and tells whether a write failed. One that failed ends the unmapping of
+/// its region alone.
+fn unmap_regions<S: Store, J: Journal>(pager: &mut SerialPager<S, J>, count: u16) -> bool
+    requires regions { count ≡ length pager.old.shapes }
+    requires few { pager.old.spent + MOST_STRIPES * count ≤ 2 ^ 44 }
+    ensures unmapped { UnmapsLast J.has_noted count result pager.old pager.new }
+    ensures journals { journals_made J.made_with pager.new ≡ journals_made J.made_with pager.old }
+{
+    let mut failed = false;
+    for region in 0..count {
+        let fault = unmap_region(pager, region);
+        failed = either(failed, fault);
+    }
+    failed
+}
+
+/// Runs the scripts one after another over these lanes, for whatever they hold at first, and unmaps every region at the end, in
+/// order of number. The settings' layout says how pages are spread; `table` is the table of the workload's regions. Each entry of a
 /// stripe's history is noted in the stripe's journal, by owner 0.
 ///
-/// Where a call of a store fails, the line that needed it is answered with a fault, and the next line runs. Where none did,
-/// the text and what the lanes hold afterwards are those of the serial meaning: `laws::without_faults`.
+/// Where a call of a store fails, the line that needed it is answered with a fault, and the next line runs; so does the
+/// unmapping of the next region at the end. Where none did, the text and what the lanes hold afterwards are those of the serial meaning: `laws::without_faults`.
 pub fn serial<S: Store, J: Journal>(
     alloc: Global,
     settings: &Settings,
@@ -178,8 +334,6 @@ pub fn serial<S: Store, J: Journal>(
     ensures back { IfErr result (λ back. rows_of S.seen (lanes_in back) ≡ rows_of S.seen lanes) }
     ensures unchanged { IfErr result (λ back. journals.new.items ≡ journals.old.items) }
 {
-    pages_show();
-    clean_is_kept();
     from_journals::<J>();
     let Some(room) = room_of(workload) else {
         return Err(RunBack::OutOfMemory { lanes });
@@ -201,10 +355,10 @@ pub fn serial<S: Store, J: Journal>(
         workload,
         &table,
     );
-    let failed = pager.write_dirty();
+    let failed = unmap_regions(&mut pager, table.count());
     let (lanes, noted) = pager.into_parts();
     put_journals(journals, noted);
-    let faulted = is_faulted(&replies, failed);
+    let faulted = either(replies.faulted, failed);
     let loaded = replies.loaded;
     let sum = replies.sum;
     Ok(SerialEnd {

@@ -89,7 +89,7 @@ module _ (laws : LaneLaws) (layout : Layout) (lines : List Line) (can : CanBeOpe
         }
           where
             serial : is_some f0.told || list_all (λ (g : NamedRegion). is_memory g.backing) (regions_seen lines) ≡ true → IsSerial lines rows ends e.text
-            serial all = laws.plain (spread_of layout) lines rows ends e fits (all_told laws layout lines can f0.told rows opened fit all) clear
+            serial all = laws.plain (spread_of layout) lines rows ends e (omega (arith, layout.some_stripe)) fits (all_told laws layout lines can f0.told rows opened fit all) clear
 
         pub rose : f0.count ≤ f1.count → (any_fault (rows_flat ends) ≡ true → Rose f1.count f2.count) → e.faulted ≡ true → Rose f0.count f2.count
         rose later shows faulted =

@@ -63,8 +63,8 @@ no_folders (script_line name ∷ ls) built = no_folders ls built
 no_folders (load_line r off len ∷ ls) built = no_folders ls built
 no_folders (store_line r off bytes ∷ ls) built = no_folders ls built
 no_folders (prefetch_line r off len ∷ ls) built = absurd (cc)
-no_folders (flush_line ∷ ls) built = absurd (cc)
-no_folders (unmap_line r ∷ ls) built = absurd (cc)
+no_folders (flush_line ∷ ls) built = no_folders ls built
+no_folders (unmap_line r ∷ ls) built = no_folders ls built
 
 -- ---- regions that aren't refused keep the rules
 

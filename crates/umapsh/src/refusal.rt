@@ -8,6 +8,6 @@ use workload_text::TextKind;
 pub enum Refusal {
     Text(TextKind),
     Region(RegionKind),
-    /// A part of the language that isn't built yet: a region in a folder of files, `prefetch`, `flush`, `unmap`.
+    /// A part of the language that isn't built yet: a region in a folder of files, or a `prefetch`.
     Unbuilt,
 }

@@ -248,7 +248,7 @@ fn refused_inputs_are_named_by_line_and_kind(rt: HostRuntime) -> Result<(), Fail
             Refusal::Region(RegionKind::TooManyPages),
         ),
         (
-            "map A memory 4096 rw\nscript s\nflush\n",
+            "map A memory 4096 rw\nscript s\nprefetch A 0 1\n",
             0,
             Refusal::Unbuilt,
         ),

@@ -71,17 +71,12 @@ fn is_built_command(command: &Command) -> bool
     ensures { result ≡ is_built_line (command_line command.now) }
 {
     match command {
-        Command::Load {
+        Command::Prefetch {
             region: _,
             off: _,
             len: _,
-        } => true,
-        Command::Store {
-            region: _,
-            off: _,
-            bytes: _,
-        } => true,
-        _ => false,
+        } => false,
+        _ => true,
     }
 }
 
@@ -105,7 +100,7 @@ fn are_built_scripts(scripts: &[Script]) -> bool
         .all(|script| are_built_commands(script.commands.as_slice()))
 }
 
-/// Whether the program can run the workload so far: regions in memory or in one file each, loads and stores alone.
+/// Whether the program can run the workload so far: regions in memory or in one file each, and no prefetch.
 pub fn is_built(workload: &Workload) -> bool
     ensures { result ≡ is_built (lines_of workload.now) }
 {

@@ -15,7 +15,7 @@ use Rattle.script_run.proofs.serial_run.run_script.Goals as goal
 pub loop-i-init : goal.loop-i-init
 loop-i-init g c = record {
   ran = λ t shaped.
-      ran_script t (regions_of (lines_of c.args.workload.now)) c.args.pager.now shaped g.J.Journal.has_noted c.args.script.now.name.items c.args.replies.now c.script.new.self (rw c.as_slice.ensures at c.script.ensures.text) (rw c.as_slice.ensures at c.script.ensures.spare) c.script.ensures.loaded c.script.ensures.sum c.script.ensures.faulted;
+      ran_script g.J.Journal.has_noted t (regions_of (lines_of c.args.workload.now)) c.args.script.now.name.items c.args.replies.now c.script.new.self c.args.pager.now (rw c.as_slice.ensures at c.script.ensures.text) (rw c.as_slice.ensures at c.script.ensures.spare) c.script.ensures.loaded c.script.ensures.sum c.script.ensures.faulted;
   journals = refl;
 }
 
@@ -42,7 +42,7 @@ loop-i-preserved g c = record {
       let items = c.as_slice-commands.result.now in
       let first = c.loop-i.invariant.ran t shaped in
       ran_item g.J.Journal.has_noted t gs pre one items c.loop-i.i c.index-commands-i.result (omega arith) c.index-commands-i.is c.args.replies.now c.loop-i.replies c.run_command.new.replies c.args.pager.now c.loop-i.pager c.run_command.new.pager
-      first (c.run_command.ensures.ran t (shaped_same t gs c.args.pager.now c.loop-i.pager shaped first.same));
+      first (c.run_command.ensures.ran t (shaped_same t gs c.args.pager.now c.loop-i.pager shaped first.did.same));
   journals = c.run_command.ensures.journals ∙ c.loop-i.invariant.journals;
 }
 

@@ -39,7 +39,7 @@ loop-i-preserved g c = record {
       let items = c.as_slice-scripts.result.now in
       let first = c.loop-i.invariant.ran t shaped in
       ran_item g.J.Journal.has_noted t gs pre script_lines items c.loop-i.i c.index-scripts-i.result (omega arith) c.index-scripts-i.is c.args.replies.now c.loop-i.replies c.run_script.new.replies c.args.pager.now c.loop-i.pager c.run_script.new.pager
-      first (c.run_script.ensures.ran t (shaped_same t gs c.args.pager.now c.loop-i.pager shaped first.same));
+      first (c.run_script.ensures.ran t (shaped_same t gs c.args.pager.now c.loop-i.pager shaped first.did.same));
   journals = c.run_script.ensures.journals ∙ c.loop-i.invariant.journals;
 }
 
