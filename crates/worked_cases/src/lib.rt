@@ -11,11 +11,15 @@ mod lanes;
 #[cfg(test)]
 mod limits;
 #[cfg(test)]
+mod locked;
+#[cfg(test)]
 mod one_stripe;
 #[cfg(test)]
 mod pager;
 #[cfg(test)]
 mod serial;
+#[cfg(test)]
+mod sparse;
 #[cfg(test)]
 mod stripe;
 #[cfg(test)]

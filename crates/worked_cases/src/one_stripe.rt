@@ -16,6 +16,9 @@ use std::test::Fail;
 use store_trait::{FailLane, MemLane, MemStore, Store};
 use stripe_core::{NewStripe, Stripe, StripeConfig};
 
+/// How an unmapping went, whether the region closes then, and whether it is unmapped.
+type Unmapping = (Result<(), PageFault>, bool, bool);
+
 /// A stripe at rest with two pages, each of 64 bytes.
 struct Small<S: Store> {
     stripe: SerialStripe<S, NoJournal>,
@@ -24,14 +27,14 @@ struct Small<S: Store> {
 impl<S: Store> Model for Small<S> {
     ghost use Rattle.std.specs.Prelude.{◌≡◌, ℕ, ◌<◌, true, false};
     ghost use Rattle.page_model.specs.Core.{is_closing};
-    ghost use Rattle.page_model.specs.Setups.{has_page, is_writable};
+    ghost use Rattle.page_model.specs.Setups.{has_page, is_writable, regions};
     ghost use Rattle.serial_pager.specs.Rests.{IsAtRest};
 
     ghost Value = { ℕ };
 
     ghost view = { λ s. s.stripe.core.events };
 
-    ghost invariant = { λ s. record { rest : IsAtRest s.stripe.core; page_size : s.stripe.core.setup.page_size ≡ 64; pages : (p : ℕ) → p < 2 → has_page s.stripe.core.setup (record { region = 0; page = p }) ≡ true; writable : is_writable s.stripe.core.setup 0 ≡ true; open_ : is_closing s.stripe.core 0 ≡ false } };
+    ghost invariant = { λ s. record { rest : IsAtRest s.stripe.core; page_size : s.stripe.core.setup.page_size ≡ 64; pages : (p : ℕ) → p < 2 → has_page s.stripe.core.setup (record { region = 0; page = p }) ≡ true; writable : is_writable s.stripe.core.setup 0 ≡ true; open_ : is_closing s.stripe.core 0 ≡ false; one : regions s.stripe.core.setup ≡ 1 } };
 }
 
 impl<S: Store> Small<S> {
@@ -59,12 +62,12 @@ impl<S: Store> Small<S> {
             .store(&mut scratch, Key { region: 0, page }, 5, &[byte])
     }
 
-    fn write_dirty(&mut self) -> bool
+    fn flush(&mut self) -> Result<(), PageFault>
         requires few { self.old + 2 ^ 22 ≤ 2 ^ 62 }
         ensures few { self.new ≤ self.old + 2 ^ 22 }
     {
         let mut scratch = [0u8; 64];
-        self.stripe.write_dirty(&mut scratch)
+        self.stripe.flush(&mut scratch)
     }
 }
 
@@ -73,10 +76,30 @@ impl<S: Store + Drop> Small<S> {
         let Small { stripe } = self;
         let (_lanes, _journal) = stripe.into_parts();
     }
+
+    /// Unmaps the region twice, and ends the stripe.
+    fn unmap_twice(self) -> (Unmapping, Unmapping)
+        requires few { self + 2 ^ 23 ≤ 2 ^ 62 }
+    {
+        let mut scratch = [0u8; 64];
+        let Small { mut stripe } = self;
+        let first = (
+            stripe.unmap(&mut scratch, 0),
+            stripe.is_closing(0),
+            stripe.is_unmapped(0),
+        );
+        let second = (
+            stripe.unmap(&mut scratch, 0),
+            stripe.is_closing(0),
+            stripe.is_unmapped(0),
+        );
+        let (_lanes, _journal) = stripe.into_parts();
+        (first, second)
+    }
 }
 
 /// The lane of a store in memory whose bytes are all 7.
-fn memory_lane(alloc: Global, layout: &Layout) -> Result<MemLane, Fail>
+pub(crate) fn memory_lane(alloc: Global, layout: &Layout) -> Result<MemLane, Fail>
     requires page_size { layout.now.page_size ≡ 64 }
     requires stripes { layout.now.stripes ≡ 1 }
     ensures { IfOk result (λ lane. (⟦<MemLane as Store>⟧.seen lane).origin ≡ memory_origin 0 2 64 1 0) }
@@ -108,7 +131,8 @@ fn made<S: Store + Drop>(
     }
 }
 
-fn small_config(alloc: Global, layout: Layout) -> Result<StripeConfig, Fail>
+/// What such a stripe is made with.
+pub(crate) fn small_config(alloc: Global, layout: Layout) -> Result<StripeConfig, Fail>
     ensures layout { IfOk result (λ c. c.layout ≡ layout) }
     ensures numbers { IfOk result (λ c. (c.number ≡ 0) × (c.faults ≡ 2) × (c.high ≡ 90) × (c.low ≡ 70)) }
     ensures shapes { IfOk result (λ c. c.shapes.items ≡ record { pages = 2; group = 1; writable = true } ∷ []) }
@@ -145,7 +169,7 @@ fn stripe_over<S: Store + Drop>(alloc: Global, layout: Layout, lane: S) -> Resul
 }
 
 /// A lane over memory whose reads and writes of these numbers fail.
-fn failing(
+pub(crate) fn failing(
     alloc: Global,
     layout: &Layout,
     reads: &[u64],
@@ -167,7 +191,7 @@ fn pages_take_turns_in_one_frame(rt: HostRuntime) -> Result<(), Fail> {
     assert_eq!(rt; stripe.store(0, 9), Ok(()));
     assert_eq!(rt; stripe.load(1), Ok(7));
     assert_eq!(rt; stripe.load(0), Ok(9));
-    assert_eq!(rt; stripe.write_dirty(), false);
+    assert_eq!(rt; stripe.flush(), Ok(()));
     stripe.end();
     Ok(())
 }
@@ -195,7 +219,44 @@ fn every_write_fails(rt: HostRuntime) -> Result<(), Fail> {
     assert_eq!(rt; stripe.store(0, 9), Ok(()));
     assert_eq!(rt; stripe.load(1), Err(PageFault { key, faults: 1 }));
     assert_eq!(rt; stripe.load(0), Ok(9));
-    assert_eq!(rt; stripe.write_dirty(), true);
+    assert_eq!(rt; stripe.flush(), Err(PageFault { key, faults: 2 }));
     stripe.end();
+    Ok(())
+}
+
+#[test]
+fn a_flush_writes_each_dirty_page_and_leaves_it(rt: HostRuntime) -> Result<(), Fail> {
+    let layout = Layout::new(64, 1, 2)?;
+    let mut stripe = stripe_over(rt.alloc(), layout, failing(rt.alloc(), &layout, &[], &[2])?)?;
+    let key = Key { region: 0, page: 1 };
+    assert_eq!(rt; stripe.store(1, 9), Ok(()));
+    assert_eq!(rt; stripe.store(0, 8), Ok(()));
+    assert_eq!(rt; stripe.flush(), Err(PageFault { key, faults: 1 }));
+    assert_eq!(rt; stripe.flush(), Ok(()));
+    assert_eq!(rt; stripe.load(0), Ok(8));
+    assert_eq!(rt; stripe.load(1), Ok(9));
+    assert_eq!(rt; stripe.flush(), Ok(()));
+    stripe.end();
+    Ok(())
+}
+
+#[test]
+fn a_region_is_unmapped_once(rt: HostRuntime) -> Result<(), Fail> {
+    let layout = Layout::new(64, 1, 1)?;
+    let mut stripe = stripe_over(rt.alloc(), layout, memory_lane(rt.alloc(), &layout)?)?;
+    assert_eq!(rt; stripe.store(0, 9), Ok(()));
+    let gone = (Ok(()), true, true);
+    assert_eq!(rt; stripe.unmap_twice(), (gone, gone));
+    Ok(())
+}
+
+#[test]
+fn an_unmapping_goes_on_after_a_failed_write(rt: HostRuntime) -> Result<(), Fail> {
+    let layout = Layout::new(64, 1, 1)?;
+    let mut stripe = stripe_over(rt.alloc(), layout, failing(rt.alloc(), &layout, &[], &[1])?)?;
+    let key = Key { region: 0, page: 0 };
+    assert_eq!(rt; stripe.store(0, 9), Ok(()));
+    let stays = (Err(PageFault { key, faults: 1 }), true, false);
+    assert_eq!(rt; stripe.unmap_twice(), (stays, (Ok(()), true, true)));
     Ok(())
 }

@@ -27,7 +27,8 @@ fn a_pager_without_regions_has_nothing_to_write(rt: HostRuntime) -> Result<(), F
         panic!(rt; "no memory for two frames");
     };
     assert_eq!(rt; pager.page_size(), 64);
-    assert!(rt; !pager.write_dirty());
+    assert_eq!(rt; pager.flush(), Ok(()));
+    assert_eq!(rt; pager.unmap_all(), Ok(()));
     let (lanes, journals) = pager.into_parts();
     assert_eq!(rt; (lanes.stripes.len(), journals.len()), (1, 1));
     Ok(())

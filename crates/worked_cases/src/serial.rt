@@ -1,5 +1,5 @@
 //! Workloads with their texts, over several layouts and settings, and over lanes that fail.
-ghost use Rattle.std.specs.Prelude.{◌≡◌, ℕ, [], length, slice_get, Some, true, IfOk};
+ghost use Rattle.std.specs.Prelude.{◌≡◌, ℕ, [], length, map, slice_get, Some, true, IfOk};
 ghost use Rattle.serial_pager.specs.Pagers.{rows_of};
 ghost use Rattle.store_trait.specs.MemLanes.{lane_seen};
 ghost use Rattle.workload_text.specs.Accepted.{IsRunnable, regions_of};
@@ -81,40 +81,85 @@ fn answer(alloc: Global, layout: Layout, text: &str) -> Result<SerialEnd<MemLane
     answer_in(alloc, &settings, text)
 }
 
-/// The only lane of the only stripe, of which reads and writes of these numbers fail.
-fn failing(
+/// Of one stripe's lane of a region, which of its reads and writes fail, by their numbers.
+#[derive(Clone, Copy)]
+struct Failing<'a> {
+    stripe: usize,
+    region: usize,
+    reads: &'a [u64],
+    writes: &'a [u64],
+}
+
+/// A stripe's lane of a region, of which the calls fail that the plan says.
+fn planned_lane(
+    alloc: Global,
+    lane: MemLane,
+    stripe: usize,
+    region: usize,
+    plan: &[Failing<'_>],
+) -> Result<FailLane<MemLane>, Fail>
+    ensures { IfOk result (λ l. (⟦<FailLane<MemLane> as Store>⟧.seen l).origin ≡ (lane_seen lane).origin) }
+{
+    for i in 0..plan.len() {
+        if plan[i].stripe == stripe && plan[i].region == region {
+            return Ok(failing_lane(alloc, lane, plan[i].reads, plan[i].writes)?);
+        }
+    }
+    Ok(failing_lane(alloc, lane, &[], &[])?)
+}
+
+/// The same of all lanes of a stripe.
+fn planned_row(
+    alloc: Global,
+    row: List<MemLane>,
+    stripe: usize,
+    plan: &[Failing<'_>],
+) -> Result<List<FailLane<MemLane>>, Fail>
+    ensures { IfOk result (λ ls. map (λ l. l.origin) (map ⟦<FailLane<MemLane> as Store>⟧.seen ls.items)
+        ≡ map (λ l. l.origin) (map lane_seen row.items)) }
+{
+    let mut lanes = row.into_vec();
+    lanes.reverse();
+    let mut planned = Vec::new(alloc);
+    'lanes: while let Some(lane) = lanes.pop() {
+        let region = planned.len();
+        planned.push(planned_lane(alloc, lane, stripe, region, plan)?)?;
+    }
+    Ok(List::from_vec(planned))
+}
+
+/// The same of all lanes.
+fn planned_lanes(
     alloc: Global,
     lanes: LaneSet<MemLane>,
-    reads: &[u64],
-    writes: &[u64],
+    plan: &[Failing<'_>],
 ) -> Result<LaneSet<FailLane<MemLane>>, Fail>
     ensures { IfOk result (λ ls. origins_in ⟦<FailLane<MemLane> as Store>⟧.seen ls ≡ origins_in lane_seen lanes) }
 {
-    let LaneSet { stripes } = lanes;
-    let mut stripes = stripes.into_vec();
-    let Some(row) = stripes.pop() else {
-        return Err(Fail::new("no stripe"));
-    };
-    if stripes.len() != 0 {
-        return Err(Fail::new("another stripe"));
+    let mut rows = lanes.stripes.into_vec();
+    rows.reverse();
+    let mut planned = Vec::new(alloc);
+    'rows: while let Some(row) = rows.pop() {
+        let stripe = planned.len();
+        planned.push(planned_row(alloc, row, stripe, plan)?)?;
     }
-    let mut row = row.into_vec();
-    let Some(lane) = row.pop() else {
-        return Err(Fail::new("no lane"));
-    };
-    if row.len() != 0 {
-        return Err(Fail::new("another lane"));
-    }
-    let mut wrapped = Vec::new(alloc);
-    wrapped.push(failing_lane(alloc, lane, reads, writes)?)?;
-    let mut rows = Vec::new(alloc);
-    rows.push(List::from_vec(wrapped))?;
     Ok(LaneSet {
-        stripes: List::from_vec(rows),
+        stripes: List::from_vec(planned),
     })
 }
 
-/// Runs a text of one region in one stripe, over a lane of which reads and writes of these numbers fail.
+/// Runs a text over lanes of which the calls fail that the plan says.
+fn answer_planned(
+    alloc: Global,
+    layout: Layout,
+    text: &str,
+    plan: &[Failing<'_>],
+) -> Result<SerialEnd<FailLane<MemLane>>, Fail> {
+    let mut journals = no_journals(alloc, &layout)?;
+    failing_run(alloc, layout, text, plan, &mut journals)
+}
+
+/// Runs a text over lanes of which those of the first stripe and region fail at reads and writes of these numbers.
 fn answer_failing(
     alloc: Global,
     layout: Layout,
@@ -122,17 +167,21 @@ fn answer_failing(
     reads: &[u64],
     writes: &[u64],
 ) -> Result<SerialEnd<FailLane<MemLane>>, Fail> {
-    let mut journals = no_journals(alloc, &layout)?;
-    failing_run(alloc, layout, text, reads, writes, &mut journals)
+    let plan = [Failing {
+        stripe: 0,
+        region: 0,
+        reads,
+        writes,
+    }];
+    answer_planned(alloc, layout, text, &plan)
 }
 
-/// The same, with these journals.
+/// Runs a text over lanes that fail so, with these journals.
 fn failing_run<J: Journal>(
     alloc: Global,
     layout: Layout,
     text: &str,
-    reads: &[u64],
-    writes: &[u64],
+    plan: &[Failing<'_>],
     journals: &mut List<J>,
 ) -> Result<SerialEnd<FailLane<MemLane>>, Fail>
     requires journals { length journals.old.items ≡ layout.stripes }
@@ -145,7 +194,7 @@ fn failing_run<J: Journal>(
     let accepted = accept(alloc, &layout, text)?;
     let Accepted { workload, table } = accepted;
     let memory = memory_lanes(alloc, &settings, &workload)?;
-    let lanes = failing(alloc, memory, reads, writes)?;
+    let lanes = planned_lanes(alloc, memory, plan)?;
     let ran = serial(alloc, &settings, &workload, table, lanes, journals);
     Ok(ran.map_err(|_| OutOfMemory)?)
 }
@@ -220,6 +269,21 @@ fn workloads_have_their_texts(rt: HostRuntime) -> Result<(), Fail> {
             "map A memory 64 rw\nscript s\nstore A 0 01\nscript t\nload A 0 1\nload A 64 0\n",
             "script s\nok\nscript t\nload 01\nload\n",
         ),
+        // A flush between two stores to one page, and one of nothing.
+        (
+            "map A memory 128 rw\nscript s\nflush\nstore A 0 aa\nflush\nstore A 0 bb\nload A 0 1\n",
+            "script s\nok\nok\nok\nok\nload bb\n",
+        ),
+        // An unmapped region, of which nothing can be loaded, nor unmapped again.
+        (
+            "map A memory 64 rw\nscript s\nunmap A\nload A 0 1\nunmap A\n",
+            "script s\nok\nunmapped\nunmapped\n",
+        ),
+        // Another region goes on, and a load of nothing is no access.
+        (
+            "map A memory 192 rw\nmap B memory 192 rw\nscript s\nstore A 60 0102030405060708\nstore B 60 0102030405060708\nunmap A\nload B 62 4\nload A 62 4\nstore A 64 ff\nload A 192 0\nscript t\nflush\nload B 64 1\nunmap B\nstore B 0 01\n",
+            "script s\nok\nok\nok\nload 03040506\nunmapped\nunmapped\nload\nscript t\nok\nload 05\nok\nunmapped\n",
+        ),
     ];
     for (stripes, frames) in [(1, 1), (1, 2), (4, 5), (64, 64)] {
         let layout = Layout::new(64, stripes, frames)?;
@@ -259,6 +323,102 @@ fn a_failed_read_is_told_and_the_next_line_runs(rt: HostRuntime) -> Result<(), F
     assert_eq!(rt;
         end.text.as_slice(),
         b"script s\nfault A 0 1\nload 00\n".as_slice()
+    );
+    assert_eq!(rt; end.faulted, true);
+    Ok(())
+}
+
+#[test]
+fn a_flush_that_fails_names_its_page_and_the_next_one_writes_it(
+    rt: HostRuntime,
+) -> Result<(), Fail> {
+    let layout = Layout::new(64, 1, 2)?;
+    let text =
+        "map A memory 128 rw\nscript s\nload A 0 1\nstore A 64 02\nflush\nflush\nload A 64 1\n";
+    let end = answer_failing(rt.alloc(), layout, text, &[], &[1])?;
+    assert_eq!(rt;
+        end.text.as_slice(),
+        b"script s\nload 00\nok\nfault A 1 1\nok\nload 02\n".as_slice()
+    );
+    assert_eq!(rt; end.faulted, true);
+    Ok(())
+}
+
+#[test]
+fn a_region_whose_unmapping_failed_stays_closed_and_is_unmapped_later(
+    rt: HostRuntime,
+) -> Result<(), Fail> {
+    let layout = Layout::new(64, 1, 2)?;
+    let text =
+        "map A memory 128 rw\nscript s\nstore A 0 01\nunmap A\nload A 0 1\nload A 0 0\nunmap A\nunmap A\n";
+    let end = answer_failing(rt.alloc(), layout, text, &[], &[1])?;
+    assert_eq!(rt;
+        end.text.as_slice(),
+        b"script s\nok\nfault A 0 1\nunmapped\nload\nok\nunmapped\n".as_slice()
+    );
+    assert_eq!(rt; end.faulted, true);
+    Ok(())
+}
+
+#[test]
+fn an_unmap_that_fails_in_the_second_stripe_has_closed_the_first_two(
+    rt: HostRuntime,
+) -> Result<(), Fail> {
+    // pages 0 and 3 lie in the first of three stripes, 1 in the second, 2 in the third
+    let layout = Layout::new(64, 3, 6)?;
+    let text =
+        "map A memory 256 rw\nscript s\nstore A 0 01\nstore A 64 02\nstore A 128 03\nunmap A\nload A 0 1\nload A 64 1\nload A 128 1\nload A 127 2\nstore A 191 0405\nload A 191 1\nunmap A\nload A 128 1\n";
+    let plan = [Failing {
+        stripe: 1,
+        region: 0,
+        reads: &[],
+        writes: &[1],
+    }];
+    let end = answer_planned(rt.alloc(), layout, text, &plan)?;
+    assert_eq!(rt;
+        end.text.as_slice(),
+        b"script s\nok\nok\nok\nfault A 1 1\nunmapped\nunmapped\nload 03\nunmapped\nunmapped\nload 04\nok\nunmapped\n".as_slice()
+    );
+    assert_eq!(rt; end.faulted, true);
+    Ok(())
+}
+
+#[test]
+fn three_regions_over_three_stripes_fail_apart(rt: HostRuntime) -> Result<(), Fail> {
+    // page p of region r lies in stripe (r + p) mod 3; one frame a stripe
+    let layout = Layout::new(64, 3, 3)?;
+    let text =
+        "map A memory 192 rw\nmap B memory 192 rw\nmap C memory 192 rw\nscript s\nload A 0 1\nload B 64 1\nstore A 0 0a\nstore B 0 0b\nstore C 0 0c\nflush\nunmap B\nload B 64 1\nload B 0 1\nflush\nload C 0 1\n";
+    let plan = [
+        Failing {
+            stripe: 0,
+            region: 0,
+            reads: &[1],
+            writes: &[1, 2],
+        },
+        Failing {
+            stripe: 1,
+            region: 1,
+            reads: &[],
+            writes: &[1],
+        },
+        Failing {
+            stripe: 2,
+            region: 1,
+            reads: &[1],
+            writes: &[],
+        },
+        Failing {
+            stripe: 2,
+            region: 2,
+            reads: &[],
+            writes: &[2],
+        },
+    ];
+    let end = answer_planned(rt.alloc(), layout, text, &plan)?;
+    assert_eq!(rt;
+        end.text.as_slice(),
+        b"script s\nfault A 0 1\nfault B 1 1\nok\nok\nok\nfault A 0 2\nfault B 0 1\nload 00\nunmapped\nfault A 0 3\nload 0c\n".as_slice()
     );
     assert_eq!(rt; end.faulted, true);
     Ok(())
@@ -322,7 +482,8 @@ fn the_text_is_the_same_under_all_settings(rt: HostRuntime) -> Result<(), Fail> 
     Ok(())
 }
 
-/// A journal that keeps of each entry what it is and of which page. An entry of another owner than 0 has no page.
+/// A journal that keeps of each entry what it is and of which page. An entry of another owner than 0 has no page, nor has one
+/// of a region.
 #[derive(Drop)]
 struct Told {
     entries: Vec<(&'static str, u32)>,
@@ -365,7 +526,27 @@ fn word(note: &Note<'_>) -> &'static str {
     }
 }
 
-/// What a stripe makes of a text, over one frame and a lane of which reads and writes of these numbers fail.
+/// What the only stripe makes of a text, over lanes that fail so.
+fn entries_over(
+    alloc: Global,
+    layout: Layout,
+    text: &str,
+    plan: &[Failing<'_>],
+) -> Result<Vec<(&'static str, u32)>, Fail> {
+    if layout.stripes() != 1 {
+        return Err(Fail::new("several stripes"));
+    }
+    let mut journals = Vec::new(alloc);
+    journals.push(Told {
+        entries: Vec::new(alloc),
+    })?;
+    let mut journals = List::from_vec(journals);
+    failing_run(alloc, layout, text, plan, &mut journals)?;
+    let journal = journals.into_vec().pop().ok_or("no journal")?;
+    Ok(journal.entries)
+}
+
+/// The same, over one frame and lanes of which those of the first region fail at reads and writes of these numbers.
 fn entries_of(
     alloc: Global,
     text: &str,
@@ -373,14 +554,13 @@ fn entries_of(
     writes: &[u64],
 ) -> Result<Vec<(&'static str, u32)>, Fail> {
     let layout = Layout::new(64, 1, 1)?;
-    let mut journals = Vec::new(alloc);
-    journals.push(Told {
-        entries: Vec::new(alloc),
-    })?;
-    let mut journals = List::from_vec(journals);
-    failing_run(alloc, layout, text, reads, writes, &mut journals)?;
-    let journal = journals.into_vec().pop().ok_or("no journal")?;
-    Ok(journal.entries)
+    let plan = [Failing {
+        stripe: 0,
+        region: 0,
+        reads,
+        writes,
+    }];
+    entries_over(alloc, layout, text, &plan)
 }
 
 #[test]
@@ -403,6 +583,10 @@ fn a_journal_tells_how_two_pages_take_turns_in_one_frame(rt: HostRuntime) -> Res
         ("start read", 0),
         ("filled", 0),
         ("load", 0),
+        // the end unmaps the region
+        ("closing", u32::MAX),
+        ("evicted", 0),
+        ("unmapped", u32::MAX),
     ];
     assert_eq!(rt;
         entries_of(rt.alloc(), text, &[], &[])?.as_slice(),
@@ -412,7 +596,7 @@ fn a_journal_tells_how_two_pages_take_turns_in_one_frame(rt: HostRuntime) -> Res
 }
 
 #[test]
-fn a_journal_tells_the_failures_of_fault_lines_and_of_the_last_writes(
+fn a_journal_tells_the_failures_of_fault_lines_and_of_the_last_unmapping(
     rt: HostRuntime,
 ) -> Result<(), Fail> {
     let text = "map A memory 128 rw\nscript s\nload A 0 1\nstore A 0 aa\nload A 62 4\nload A 0 1\n";
@@ -430,6 +614,9 @@ fn a_journal_tells_the_failures_of_fault_lines_and_of_the_last_writes(
         ("start write", 0),
         ("write failed", 0),
         ("load", 0),
+        // the end fails to unmap the region
+        ("closing", u32::MAX),
+        ("dropped", 1),
         ("start write", 0),
         ("write failed", 0),
     ];
@@ -437,6 +624,77 @@ fn a_journal_tells_the_failures_of_fault_lines_and_of_the_last_writes(
         entries_of(rt.alloc(), text, &[1], &[1, 2])?.as_slice(),
         wanted.as_slice()
     );
+    Ok(())
+}
+
+#[test]
+fn a_journal_tells_of_flushes_and_of_unmappings(rt: HostRuntime) -> Result<(), Fail> {
+    let text =
+        "map A memory 64 rw\nscript s\nstore A 0 aa\nflush\nflush\nstore A 1 bb\nunmap A\nload A 0 1\nunmap A\nunmap A\n";
+    let wanted = [
+        ("raised", 0),
+        ("start read", 0),
+        ("filled", 0),
+        ("save", 0),
+        // the first flush, and nothing for the second
+        ("start write", 0),
+        ("written", 0),
+        // the page is opened again
+        ("raised", 0),
+        ("opened", 0),
+        ("save", 0),
+        // the first `unmap` fails
+        ("closing", u32::MAX),
+        ("start write", 0),
+        ("write failed", 0),
+        // the second goes on, the third and the end have nothing left to do
+        ("start write", 0),
+        ("written", 0),
+        ("evicted", 0),
+        ("unmapped", u32::MAX),
+    ];
+    assert_eq!(rt;
+        entries_of(rt.alloc(), text, &[], &[2])?.as_slice(),
+        wanted.as_slice()
+    );
+    Ok(())
+}
+
+#[test]
+fn the_end_fails_in_one_region_and_goes_on_in_the_next(rt: HostRuntime) -> Result<(), Fail> {
+    let layout = Layout::new(64, 1, 2)?;
+    let text = "map A memory 64 rw\nmap B memory 64 rw\nscript s\nstore A 0 0a\nstore B 0 0b\n";
+    let plan = [Failing {
+        stripe: 0,
+        region: 0,
+        reads: &[],
+        writes: &[1],
+    }];
+    let wanted = [
+        ("raised", 0),
+        ("start read", 0),
+        ("filled", 0),
+        ("save", 0),
+        ("raised", 0),
+        ("start read", 0),
+        ("filled", 0),
+        ("save", 0),
+        ("closing", u32::MAX),
+        ("start write", 0),
+        ("write failed", 0),
+        ("closing", u32::MAX),
+        ("start write", 0),
+        ("written", 0),
+        ("evicted", 0),
+        ("unmapped", u32::MAX),
+    ];
+    assert_eq!(rt;
+        entries_over(rt.alloc(), layout, text, &plan)?.as_slice(),
+        wanted.as_slice()
+    );
+    let end = answer_planned(rt.alloc(), layout, text, &plan)?;
+    assert_eq!(rt; end.text.as_slice(), b"script s\nok\nok\n".as_slice());
+    assert_eq!(rt; end.faulted, true);
     Ok(())
 }
 

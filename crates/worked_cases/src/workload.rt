@@ -334,7 +334,9 @@ fn sixty_four_regions_and_scripts_may_begin(rt: HostRuntime) -> Result<(), Fail>
 }
 
 #[test]
-fn regions_in_memory_or_a_file_loads_and_stores_are_built(rt: HostRuntime) -> Result<(), Fail> {
+fn regions_in_memory_or_a_file_and_all_but_a_prefetch_are_built(
+    rt: HostRuntime,
+) -> Result<(), Fail> {
     for (text, built, memory) in [
         (
             "map A memory 64 rw\nmap B memory 64 ro\nscript s\nload B 0 1\nstore A 0 00\n",
@@ -342,7 +344,12 @@ fn regions_in_memory_or_a_file_loads_and_stores_are_built(rt: HostRuntime) -> Re
             true,
         ),
         (
-            "map A memory 64 rw\nscript s\nload A 0 1\nscript t\nflush\n",
+            "map A memory 64 rw\nscript s\nload A 0 1\nflush\nscript t\nunmap A\n",
+            true,
+            true,
+        ),
+        (
+            "map A memory 64 rw\nscript s\nload A 0 1\nscript t\nprefetch A 0 1\n",
             false,
             true,
         ),
