@@ -1,6 +1,7 @@
 /* The first yardstick of bench/serial: the same texts over flat memory, as a plain C program would run them.
  *
- * It runs the loads and stores of a workload text on one array for each region, and has no pages, buffer or stripes.
+ * It runs the loads and stores of a workload text on one array for each region, and has no pages, buffer or stripes. A flush
+ * has nothing to write, and an unmap frees the array.
  *
  * usage: flat < TEXT
  * build: gcc -O2 -o flat flat.c
@@ -16,6 +17,10 @@ int main(void)
     struct line line = {0};
     text = read_text();
     while (next_line(&text, &line)) {
+        if (wants_region(&line) && !regions[line.region]) {
+            reply_unmapped(&replies);
+            continue;
+        }
         switch (line.kind) {
         case MAP:
             if (line.path.length > 0)
@@ -30,7 +35,15 @@ int main(void)
             break;
         case STORE:
             put_stored(regions[line.region] + line.off, &line);
-            reply_store(&replies);
+            reply_ok(&replies);
+            break;
+        case FLUSH:
+            reply_ok(&replies);
+            break;
+        case UNMAP:
+            free(regions[line.region]);
+            regions[line.region] = NULL;
+            reply_ok(&replies);
             break;
         }
     }

@@ -12,8 +12,12 @@
  *   Where it is dirty, it is protected, copied to the scratch page and written to the store, which makes it clean unless a
  *   store has opened it meanwhile; the next service evicts it.
  *
- * Pages go round the stripes, and each stripe has a page table, frames and faults of its own. At the end each dirty page is
- * written, stripe by stripe and there in order of region and page.
+ * Pages go round the stripes, and each stripe has a page table, frames and faults of its own.
+ *
+ * - A flush writes the dirty pages, stripe by stripe and there in order of region and page. They stay in, clean and protected.
+ * - An unmap lets the region's pages leave, stripe by stripe and there in the order in which they came in, and writes each before
+ *   where it is dirty. From then on the region's loads, stores and unmaps are answered so.
+ * - At the end each region that is still mapped is unmapped, in order of number.
  *
  * A region's store is an array, or a file, which is opened for each page that is read or written, as the program does it.
  *
@@ -24,21 +28,15 @@
  * usage: paging [STRIPES FRAMES] < TEXT     (4 stripes that share 1024 frames where none are said)
  * build: gcc -O2 -o paging paging.c
  */
+#include "order.h"
 #include "workload.h"
 
 #include <fcntl.h>
 
-enum { PAGE_SIZE = 4096, MOST_STRIPES = 64, MOST_FAULTS = 64 };
+enum { MOST_STRIPES = 64, MOST_FAULTS = 64 };
 
 /* The stripes, and the frames of all of them, where the words say nothing. */
 enum { DEFAULT_STRIPES = 4, DEFAULT_FRAMES = 1024 };
-
-/* The watermarks, in percent of a stripe's frames. */
-enum { HIGH = 90, LOW = 70 };
-
-struct key {
-    uint32_t region, page;
-};
 
 /* An entry of a page table: 0 where the page is missing, else its frame's number and these bits. */
 typedef uint64_t entry;
@@ -54,20 +52,11 @@ struct fault {
     enum why why;
 };
 
-/* A frame's page, and the frames that were filled before it and behind it. */
-struct frame {
-    struct key key;
-    uint32_t older, newer;
-};
-
 struct stripe {
     entry *tables[MOST_REGIONS]; /* by region and page; the entries of other stripes' pages stay 0 */
 
-    uint32_t quota;       /* how many frames there are */
-    uint8_t *bytes;       /* one page a frame */
-    struct frame *frames; /* a ring, closed by one more: its newer one is the oldest of all, its older one the newest */
-    uint32_t *free;       /* the numbers of the free frames */
-    uint32_t free_count;
+    struct order order; /* of its frames */
+    uint8_t *bytes;     /* one page a frame */
 
     uint32_t high, low; /* the stripe evicts from so many resident pages on, till so few are left */
     bool evicting;
@@ -80,6 +69,7 @@ struct region {
     uint8_t *store; /* the bytes of a region in memory */
     char *path;     /* the file of any other; NULL where it is in memory */
     uint32_t pages;
+    bool unmapped;
 };
 
 static struct region regions[MOST_REGIONS];
@@ -141,41 +131,6 @@ static uint8_t *bytes_of(struct stripe *stripe, uint32_t frame)
     return stripe->bytes + (size_t)frame * PAGE_SIZE;
 }
 
-/* ---- frames in the order of filling ---- */
-
-static uint32_t resident(const struct stripe *stripe)
-{
-    return stripe->quota - stripe->free_count;
-}
-
-/* Copies the scratch page into a free frame, which is the newest from then on. */
-static uint32_t fill_frame(struct stripe *stripe, struct key key)
-{
-    struct frame *frames = stripe->frames;
-    uint32_t head = stripe->quota, newest = frames[head].older;
-    uint32_t frame = stripe->free[--stripe->free_count];
-    memcpy(bytes_of(stripe, frame), scratch, PAGE_SIZE);
-    frames[frame] = (struct frame){key, .older = newest, .newer = head};
-    frames[newest].newer = frame;
-    frames[head].older = frame;
-    return frame;
-}
-
-static void release_frame(struct stripe *stripe, uint32_t frame)
-{
-    struct frame *frames = stripe->frames;
-    uint32_t older = frames[frame].older, newer = frames[frame].newer;
-    frames[older].newer = newer;
-    frames[newer].older = older;
-    stripe->free[stripe->free_count++] = frame;
-}
-
-static struct key oldest_page(const struct stripe *stripe)
-{
-    uint32_t oldest = stripe->frames[stripe->quota].newer;
-    return stripe->frames[oldest].key;
-}
-
 /* ---- faults ---- */
 
 /* Lets a page wait, unless it waits already. Where the queue is full, the access raises the fault at its next try. */
@@ -200,7 +155,7 @@ static struct fault withdraw_fault(struct stripe *stripe, uint32_t place)
 static uint32_t first_servable(const struct stripe *stripe)
 {
     uint32_t place = 0;
-    while (place < stripe->fault_count && stripe->faults[place].why != TO_OPEN && stripe->free_count == 0)
+    while (place < stripe->fault_count && stripe->faults[place].why != TO_OPEN && stripe->order.free_count == 0)
         place++;
     return place;
 }
@@ -208,9 +163,10 @@ static uint32_t first_servable(const struct stripe *stripe)
 static void read_in(struct stripe *stripe, struct key key, enum why why)
 {
     read_from_store(key);
-    entry bits = PRESENT | (why == TO_STORE ? DIRTY : PROTECTED);
-    *entry_of(stripe, key) = bits | fill_frame(stripe, key);
-    if (resident(stripe) >= stripe->high)
+    uint32_t frame = take_frame(&stripe->order, key);
+    memcpy(bytes_of(stripe, frame), scratch, PAGE_SIZE);
+    *entry_of(stripe, key) = PRESENT | (why == TO_STORE ? DIRTY : PROTECTED) | frame;
+    if (resident(&stripe->order) >= stripe->high)
         stripe->evicting = true;
 }
 
@@ -235,16 +191,16 @@ static void write_back(struct stripe *stripe, struct key key)
 static void evict(struct stripe *stripe, struct key key)
 {
     entry *page = entry_of(stripe, key);
-    release_frame(stripe, frame_of(*page));
+    release_frame(&stripe->order, frame_of(*page));
     *page = 0;
-    if (resident(stripe) <= stripe->low)
+    if (resident(&stripe->order) <= stripe->low)
         stripe->evicting = false;
 }
 
 /* Whether pages may leave: from the high mark down to the low one, and where no frame is free. */
 static bool is_under_pressure(const struct stripe *stripe)
 {
-    return stripe->evicting || stripe->free_count == 0;
+    return stripe->evicting || stripe->order.free_count == 0;
 }
 
 /* Writes the oldest page back where it is dirty, else evicts it. */
@@ -252,7 +208,7 @@ static void make_room(struct stripe *stripe)
 {
     if (!is_under_pressure(stripe))
         fail("no page may leave");
-    struct key oldest = oldest_page(stripe);
+    struct key oldest = oldest_page(&stripe->order);
     if (*entry_of(stripe, oldest) & DIRTY)
         write_back(stripe, oldest);
     else
@@ -345,7 +301,9 @@ static void store(struct range range, const uint8_t *bytes)
     }
 }
 
-static void write_dirty(struct stripe *stripe)
+/* ---- flushing and unmapping; no fault waits between two lines ---- */
+
+static void flush_stripe(struct stripe *stripe)
 {
     for (uint32_t region = 0; region < region_count; region++)
         for (uint32_t page = 0; page < regions[region].pages; page++)
@@ -353,17 +311,41 @@ static void write_dirty(struct stripe *stripe)
                 write_back(stripe, (struct key){region, page});
 }
 
+static void flush(void)
+{
+    for (uint32_t i = 0; i < stripe_count; i++)
+        flush_stripe(&stripes[i]);
+}
+
+static void empty_region(struct stripe *stripe, uint32_t region)
+{
+    for (struct key key; oldest_of(&stripe->order, region, &key);) {
+        if (*entry_of(stripe, key) & DIRTY)
+            write_back(stripe, key);
+        evict(stripe, key);
+    }
+}
+
+static void unmap(uint32_t region)
+{
+    for (uint32_t i = 0; i < stripe_count; i++)
+        empty_region(&stripes[i], region);
+    regions[region].unmapped = true;
+}
+
+static void unmap_all(void)
+{
+    for (uint32_t region = 0; region < region_count; region++)
+        if (!regions[region].unmapped)
+            unmap(region);
+}
+
 /* ---- opening, and the run ---- */
 
 static void open_stripe(struct stripe *stripe, uint32_t quota)
 {
-    stripe->quota = quota;
+    stripe->order = new_order(quota);
     stripe->bytes = zeros(quota, PAGE_SIZE);
-    stripe->frames = zeros((size_t)quota + 1, sizeof *stripe->frames);
-    stripe->frames[quota] = (struct frame){.older = quota, .newer = quota};
-    stripe->free = zeros(quota, sizeof *stripe->free);
-    for (uint32_t frame = quota; frame-- > 0;)
-        stripe->free[stripe->free_count++] = frame;
     stripe->high = (uint32_t)(((uint64_t)quota * HIGH + 99) / 100);
     stripe->low = (uint32_t)((uint64_t)quota * LOW / 100);
 }
@@ -406,6 +388,10 @@ int main(int argc, char **argv)
         fail("usage: paging [STRIPES FRAMES] < TEXT");
     text = read_text();
     while (next_line(&text, &line)) {
+        if (wants_region(&line) && regions[line.region].unmapped) {
+            reply_unmapped(&replies);
+            continue;
+        }
         switch (line.kind) {
         case MAP:
             map_region(&line);
@@ -420,12 +406,19 @@ int main(int argc, char **argv)
         case STORE:
             put_stored(bytes, &line);
             store((struct range){line.region, line.off, line.length}, bytes);
-            reply_store(&replies);
+            reply_ok(&replies);
+            break;
+        case FLUSH:
+            flush();
+            reply_ok(&replies);
+            break;
+        case UNMAP:
+            unmap(line.region);
+            reply_ok(&replies);
             break;
         }
     }
-    for (uint32_t i = 0; i < stripe_count; i++)
-        write_dirty(&stripes[i]);
+    unmap_all();
     write_replies(&replies);
     return 0;
 }

@@ -20,10 +20,11 @@ class Run(NamedTuple):
 
 
 class Program(NamedTuple):
-    """A command and the folder that it runs in."""
+    """A command, the folder that it runs in, and variables of its environment beside the caller's."""
 
     command: list
     folder: str
+    settings: dict = {}
 
 
 def built_umapsh():
@@ -46,9 +47,10 @@ def write_texts(folder, *words):
 
 
 def run(program, text, output):
+    environment = {**os.environ, **program.settings}
     with open(text, "rb") as source, open(output, "wb") as sink:
         start = time.perf_counter()
-        child = subprocess.Popen(program.command, stdin=source, stdout=sink, cwd=program.folder)
+        child = subprocess.Popen(program.command, stdin=source, stdout=sink, cwd=program.folder, env=environment)
         _, status, usage = os.wait4(child.pid, 0)
         took = time.perf_counter() - start
     if status != 0:

@@ -9,6 +9,10 @@ resident  262144 small commands over 4 MiB, which is as much as the default buff
 evicting  262144 small commands over 16 MiB, four times the default buffer
 stores    stores of 64 KiB each, as many as a text of 16 MiB has room for
 loads     512 loads of 64 KiB, the most bytes that one workload may load
+flushes   as many rounds as there are commands for of 256 small stores and a flush, over 16 MiB, which is 4096 pages: each once in
+          order, and then at random
+regions   262144 commands over 64 regions of 1 MiB, which take turns, so that their pages interleave in the order of filling; each
+          is unmapped in the end, and then loaded from, stored to and unmapped in vain
 
 For `bench/files`, over one file of 256 MiB:
 
@@ -24,6 +28,7 @@ import sys
 KIB = 1024
 MIB = 1024 * KIB
 COMMANDS = 262144
+REGIONS = 64
 ACCESS = 64 * KIB
 TEXT = 16 * MIB
 PAGE = 4 * KIB
@@ -48,19 +53,24 @@ def head(length):
     return [f"map A memory {length} rw", "script s"]
 
 
+def small_store(draws, name, off, size):
+    first = draws.below(256)
+    data = bytes((first + j) % 256 for j in range(size))
+    return f"store {name} {off} {data.hex()}"
+
+
+def small_access(draws, name, start, length):
+    """A load or a store of few bytes, of a region's bytes from `start` on."""
+    size = 1 + draws.below(16)
+    off = start + draws.below(length - size)
+    if draws.below(2) == 0:
+        return f"load {name} {off} {size}"
+    return small_store(draws, name, off, size)
+
+
 def small_commands(length, seed):
     draws = Draws(seed)
-    lines = head(length)
-    for _ in range(COMMANDS):
-        size = 1 + draws.below(16)
-        off = draws.below(length - size)
-        if draws.below(2) == 0:
-            lines.append(f"load A {off} {size}")
-        else:
-            first = draws.below(256)
-            data = bytes((first + j) % 256 for j in range(size))
-            lines.append(f"store A {off} {data.hex()}")
-    return lines
+    return head(length) + [small_access(draws, "A", 0, length) for _ in range(COMMANDS)]
 
 
 def large_stores():
@@ -83,6 +93,32 @@ def large_loads():
         if n % 8 == 0:
             lines.append(f"store A {(n * ACCESS + 77) % (16 * MIB)} {bytes([n % 256]).hex()}")
         lines.append(f"load A {n * ACCESS % (16 * MIB)} {ACCESS}")
+    return lines
+
+
+def flushes():
+    draws = Draws(4)
+    lines = head(16 * MIB)
+    pages = 16 * MIB // PAGE
+    for n in range(COMMANDS // 257 * 256):
+        page = n if n < pages else draws.below(pages)
+        size = 1 + draws.below(16)
+        lines.append(small_store(draws, "A", page * PAGE + draws.below(PAGE - size), size))
+        if n % 256 == 255:
+            lines.append("flush")
+    return lines
+
+
+def regions():
+    draws = Draws(5)
+    names = [f"R{n}" for n in range(REGIONS)]
+    pages = MIB // PAGE
+    lines = [f"map {name} memory {MIB} rw" for name in names] + ["script s"]
+    for n in range(COMMANDS // REGIONS - 4):
+        lines += [small_access(draws, name, n % pages * PAGE, PAGE) for name in names]
+    lines += [f"unmap {name}" for name in names]
+    for name in names:
+        lines += [f"load {name} 0 1", f"store {name} 0 00", f"unmap {name}"]
     return lines
 
 
@@ -113,7 +149,12 @@ TEXTS = {
     "evicting": lambda: small_commands(16 * MIB, 2),
     "stores": large_stores,
     "loads": large_loads,
+    "flushes": flushes,
+    "regions": regions,
 }
+
+# The buffer's pages that hold all of a text's; any other text runs with the default.
+FRAMES = {"flushes": 4096, "regions": 16384}
 
 OVER_FILES = {
     "fill": fill,

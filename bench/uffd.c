@@ -8,12 +8,14 @@
  * - Where as many pages are in as the high mark says, the pages that came in first leave down to the low mark: one that is
  *   dirty is protected and written to its file before that.
  *
- * Each file stays open. At the end each dirty page is written.
+ * The thread that runs the text flushes and unmaps, as paging.c does it, with the pager held off meanwhile. An unmapped region's
+ * memory is given back. At the end each region that is still mapped is unmapped, in order of number. Each file stays open.
  *
  * usage: uffd [FRAMES] < TEXT     (1024 frames where none are said; the kernel may allow userfaultfd to root alone)
  * build: gcc -O2 -pthread -o uffd uffd.c
  */
 #define _GNU_SOURCE
+#include "order.h"
 #include "workload.h"
 
 #include <errno.h>
@@ -26,40 +28,39 @@
 #include <sys/mman.h>
 #include <sys/syscall.h>
 
-enum { PAGE_SIZE = 4096, DEFAULT_FRAMES = 1024 };
-
-/* The watermarks, in percent of the frames. */
-enum { HIGH = 90, LOW = 70 };
+enum { DEFAULT_FRAMES = 1024 };
 
 enum state { MISSING, CLEAN, DIRTY };
 
-struct region {
-    uint8_t *bytes;
-    uint64_t length;
-    int file;
-    uint8_t *states; /* by page; the pager's alone, till it has ended */
+/* A page's state, and its frame where it isn't missing. */
+struct page {
+    enum state state;
+    uint32_t frame;
 };
 
-struct key {
-    uint32_t region, page;
+struct region {
+    uint8_t *bytes; /* NULL once it is unmapped */
+    uint64_t length;
+    int file;
+    struct page *pages;
 };
 
 static struct region regions[MOST_REGIONS];
 static uint32_t region_count;
 static int faults, ended;
 
-/* A ring of the pages that are in, in the order in which they came. */
-static struct key *order;
-static uint32_t frames, first, resident;
+/* The pages that are in. They, and the pages' states, belong to the thread that has the turn. */
+static struct order order;
+static pthread_mutex_t turn = PTHREAD_MUTEX_INITIALIZER;
 
 static uint8_t *page_at(struct key key)
 {
     return regions[key.region].bytes + (size_t)key.page * PAGE_SIZE;
 }
 
-static uint8_t *state_of(struct key key)
+static struct page *page_of(struct key key)
 {
-    return &regions[key.region].states[key.page];
+    return &regions[key.region].pages[key.page];
 }
 
 static void protect(struct key key, bool on)
@@ -73,34 +74,33 @@ static void protect(struct key key, bool on)
             fail("a page can't be protected");
 }
 
+/* Writes a dirty page to its file, which makes it clean. */
 static void write_back(struct key key)
 {
     off_t place = (off_t)key.page * PAGE_SIZE;
+    protect(key, true);
     if (pwrite(regions[key.region].file, page_at(key), PAGE_SIZE, place) != PAGE_SIZE)
         fail("a write failed");
-    *state_of(key) = CLEAN;
+    page_of(key)->state = CLEAN;
 }
 
-static void evict_oldest(void)
+static void evict(struct key key)
 {
-    struct key key = order[first];
-    if (*state_of(key) == DIRTY) {
-        protect(key, true);
+    struct page *page = page_of(key);
+    if (page->state == DIRTY)
         write_back(key);
-    }
     if (madvise(page_at(key), PAGE_SIZE, MADV_DONTNEED))
         fail("a page can't leave");
-    *state_of(key) = MISSING;
-    first = (first + 1) % frames;
-    resident--;
+    release_frame(&order, page->frame);
+    page->state = MISSING;
 }
 
 static void make_room(void)
 {
-    if ((uint64_t)resident * 100 < (uint64_t)frames * HIGH && resident < frames)
+    if ((uint64_t)resident(&order) * 100 < (uint64_t)order.quota * HIGH)
         return;
-    while (resident > 0 && (resident == frames || (uint64_t)resident * 100 > (uint64_t)frames * LOW))
-        evict_oldest();
+    while ((uint64_t)resident(&order) * 100 > (uint64_t)order.quota * LOW)
+        evict(oldest_page(&order));
 }
 
 static void copy_in(struct key key, uint8_t *bytes, bool stores)
@@ -124,9 +124,7 @@ static void fill(struct key key, bool stores)
     make_room();
     if (pread(regions[key.region].file, bytes, PAGE_SIZE, (off_t)key.page * PAGE_SIZE) != PAGE_SIZE)
         fail("a read failed");
-    order[(first + resident) % frames] = key;
-    resident++;
-    *state_of(key) = stores ? DIRTY : CLEAN;
+    *page_of(key) = (struct page){stores ? DIRTY : CLEAN, take_frame(&order, key)};
     copy_in(key, bytes, stores);
 }
 
@@ -143,7 +141,7 @@ static void serve(const struct uffd_msg *message)
     struct key key = key_at((const uint8_t *)message->arg.pagefault.address);
     uint64_t flags = message->arg.pagefault.flags;
     if (flags & UFFD_PAGEFAULT_FLAG_WP) {
-        *state_of(key) = DIRTY;
+        page_of(key)->state = DIRTY;
         protect(key, false);
     } else {
         fill(key, flags & UFFD_PAGEFAULT_FLAG_WRITE);
@@ -158,10 +156,41 @@ static void *pager(void *nothing)
         poll(sources, 2, -1);
         if (sources[1].revents)
             return nothing;
-        if (read(faults, &message, sizeof message) == sizeof message && message.event == UFFD_EVENT_PAGEFAULT)
-            serve(&message);
+        if (read(faults, &message, sizeof message) != sizeof message || message.event != UFFD_EVENT_PAGEFAULT)
+            continue;
+        pthread_mutex_lock(&turn);
+        serve(&message);
+        pthread_mutex_unlock(&turn);
     }
 }
+
+/* ---- flushing and unmapping ---- */
+
+static void flush(void)
+{
+    pthread_mutex_lock(&turn);
+    for (struct key key = {0}; key.region < region_count; key.region++)
+        for (key.page = 0; key.page < regions[key.region].length / PAGE_SIZE; key.page++)
+            if (page_of(key)->state == DIRTY)
+                write_back(key);
+    pthread_mutex_unlock(&turn);
+}
+
+static void unmap(uint32_t region)
+{
+    struct region *gone = &regions[region];
+    struct uffdio_range range = {(uint64_t)gone->bytes, gone->length};
+    pthread_mutex_lock(&turn);
+    for (struct key key; oldest_of(&order, region, &key);)
+        evict(key);
+    if (ioctl(faults, UFFDIO_UNREGISTER, &range) || munmap(gone->bytes, gone->length))
+        fail("a region can't be unmapped");
+    gone->bytes = NULL;
+    gone->length = 0;
+    pthread_mutex_unlock(&turn);
+}
+
+/* ---- opening, and the run ---- */
 
 static void open_faults(uint32_t count)
 {
@@ -169,8 +198,7 @@ static void open_faults(uint32_t count)
     struct uffdio_api api = {.api = UFFD_API, .features = UFFD_FEATURE_PAGEFAULT_FLAG_WP};
     if (faults < 0 || ioctl(faults, UFFDIO_API, &api))
         fail("userfaultfd isn't allowed");
-    frames = count;
-    order = zeros(frames, sizeof *order);
+    order = new_order(count);
     ended = eventfd(0, EFD_CLOEXEC);
 }
 
@@ -181,7 +209,7 @@ static void map_region(const struct line *line)
     if (line->length % PAGE_SIZE != 0)
         fail("a region isn't of whole pages");
     region->length = line->length;
-    region->states = zeros(line->length / PAGE_SIZE, 1);
+    region->pages = zeros(line->length / PAGE_SIZE, sizeof *region->pages);
     region->file = open(path, O_RDWR | O_CLOEXEC);
     region->bytes = mmap(NULL, line->length, PROT_READ | PROT_WRITE, MAP_PRIVATE | MAP_ANONYMOUS | MAP_NORESERVE, -1, 0);
     if (region->file < 0 || region->bytes == MAP_FAILED)
@@ -201,11 +229,9 @@ static void end(pthread_t thread)
     uint64_t one = 1;
     if (write(ended, &one, sizeof one) != sizeof one || pthread_join(thread, NULL))
         fail("the pager doesn't end");
-    for (uint32_t n = 0; n < resident; n++) {
-        struct key key = order[(first + n) % frames];
-        if (*state_of(key) == DIRTY)
-            write_back(key);
-    }
+    for (uint32_t region = 0; region < region_count; region++)
+        if (regions[region].bytes)
+            unmap(region);
 }
 
 int main(int argc, char **argv)
@@ -220,6 +246,10 @@ int main(int argc, char **argv)
     if (pthread_create(&thread, NULL, pager, NULL))
         fail("no thread");
     while (next_line(&text, &line)) {
+        if (wants_region(&line) && !regions[line.region].bytes) {
+            reply_unmapped(&replies);
+            continue;
+        }
         switch (line.kind) {
         case MAP:
             map_region(&line);
@@ -234,7 +264,15 @@ int main(int argc, char **argv)
         case STORE:
             put_stored(bytes, &line);
             memcpy(regions[line.region].bytes + line.off, bytes, line.length);
-            reply_store(&replies);
+            reply_ok(&replies);
+            break;
+        case FLUSH:
+            flush();
+            reply_ok(&replies);
+            break;
+        case UNMAP:
+            unmap(line.region);
+            reply_ok(&replies);
             break;
         }
     }

@@ -1,6 +1,6 @@
 /* What the C programs of bench/serial and bench/files share: how they read a workload text, and how they write its replies.
  *
- * The texts are those of docs/FORMATS.md with regions in memory and in files, loads and stores alone. They are trusted. Their
+ * The texts are those of docs/FORMATS.md with regions in memory and in files, and without prefetches. They are trusted. Their
  * lines are read one by one, as the program runs them, and the replies are kept till the end.
  */
 #ifndef WORKLOAD_H
@@ -37,12 +37,12 @@ struct span {
     size_t length;
 };
 
-enum kind { MAP, SCRIPT, LOAD, STORE };
+enum kind { MAP, SCRIPT, LOAD, STORE, FLUSH, UNMAP };
 
 struct line {
     enum kind kind;
     struct span whole;  /* with its line feed */
-    uint32_t region;    /* by its number in the order of the map lines; a script has none */
+    uint32_t region;    /* by its number in the order of the map lines; a script and a flush have none */
     uint64_t off;       /* of a load and a store */
     uint64_t length;    /* of the region that is mapped, of a load and of a store, in bytes */
     struct span path;   /* of the region that is mapped: its file; of no bytes where it is in memory */
@@ -155,6 +155,11 @@ static bool next_line(struct text *text, struct line *line)
         line->length = (uint64_t)(feed - at) / 2;
     } else if (is_word(word, "script")) { /* script NAME */
         line->kind = SCRIPT;
+    } else if (is_word(word, "flush")) { /* flush */
+        line->kind = FLUSH;
+    } else if (is_word(word, "unmap")) { /* unmap NAME */
+        line->kind = UNMAP;
+        line->region = region_named(text, field(&at));
     } else if (is_word(word, "map")) { /* map NAME memory LENGTH MODE, map NAME file PATH LENGTH MODE */
         line->kind = MAP;
         line->region = add_region(text, field(&at));
@@ -164,9 +169,15 @@ static bool next_line(struct text *text, struct line *line)
         line->path = is_word(kind, "file") ? field(&at) : (struct span){0};
         line->length = number(&at);
     } else {
-        fail("a line is none of map, script, load and store");
+        fail("a line is none of map, script, load, store, flush and unmap");
     }
     return true;
+}
+
+/* Whether a line goes to bytes or pages of its region, so that it can't be run once the region is unmapped. */
+static bool wants_region(const struct line *line)
+{
+    return line->kind == STORE || line->kind == UNMAP || (line->kind == LOAD && line->length > 0);
 }
 
 static unsigned digit(char c)
@@ -228,9 +239,14 @@ static void reply_load(struct replies *replies, const uint8_t *loaded, uint64_t 
     replies->used = (size_t)(to - replies->bytes);
 }
 
-static void reply_store(struct replies *replies)
+static void reply_ok(struct replies *replies)
 {
     put(replies, (struct span){"ok\n", 3});
+}
+
+static void reply_unmapped(struct replies *replies)
+{
+    put(replies, (struct span){"unmapped\n", 9});
 }
 
 static void write_replies(const struct replies *replies)
