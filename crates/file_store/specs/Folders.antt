@@ -3,7 +3,7 @@ use Rattle.std.specs.Prelude.{◌≡◌, ◌≢◌, ℕ, ◌*◌, ◌<◌, ◌�
 use Rattle.std.specs.Option.{option_map}
 use Rattle.std.specs.List.{range_with_len}
 use Rattle.page_base.specs.Backings.{in_file}
-use Rattle.page_base.specs.Lanes.{Origin, Rose}
+use Rattle.page_base.specs.Lanes.{Origin, Rose, all_there}
 use Rattle.page_base.specs.ListSeen.{ListSeen}
 use Rattle.file_store.specs.Parts.{Extent, striped, whole, PartName, PartSeen, reach, told_pieces}
 use Rattle.file_store.specs.Shelves.{Shelf, FolderSeen, file_at}
@@ -89,7 +89,7 @@ TellsShort file need (Err OutOfMemory) = ⊤
 -- one stripe's part of a file
 abbrev pub stripe_origin : (path : List ℕ) → Cut → (stripe : ℕ) → Origin
 stripe_origin path cut stripe =
-    record { backing = in_file path; region = cut.region; pages = cut.pages; page_size = cut.layout.page_size; group = 1; stripes = cut.layout.stripes; stripe = stripe }
+    record { backing = in_file path; region = cut.region; pages = cut.pages; page_size = cut.layout.page_size; group = 1; stripes = cut.layout.stripes; stripe = stripe; there = all_there }
 
 abbrev pub stripe_name : (path : List ℕ) → Cut → (stripe : ℕ) → PartName
 stripe_name path cut stripe = record { path = path; extent = striped (stripe_origin path cut stripe) }

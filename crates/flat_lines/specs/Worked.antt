@@ -1,6 +1,7 @@
 -- A worked case: a store and a load over a sparse region of eight bytes, whose four pages lie two and two in two stripes.
 use Rattle.std.specs.Prelude.{◌≡◌, ℕ, ◌<◌, true, List, [], ◌∷◌, length, replicate, Some}
 use Rattle.page_base.specs.Backings.{in_memory}
+use Rattle.page_base.specs.Lanes.{all_there}
 use Rattle.page_model.specs.declared.entry.Entry.{Entry}
 use Rattle.page_model.specs.Owned.{LoadsFollow}
 use Rattle.page_model.specs.Pieces.{loads, saves}
@@ -21,7 +22,7 @@ zero_stripe s = record {
   low = 70;
   shapes = record { pages = 4; group = 2; writable = true } ∷ [];
   lanes = record {
-    origin = record { backing = in_memory; region = 0; pages = 4; page_size = 2; group = 2; stripes = 2; stripe = s };
+    origin = record { backing = in_memory; region = 0; pages = 4; page_size = 2; group = 2; stripes = 2; stripe = s; there = all_there };
     told = replicate 4 (Some (0 ∷ 0 ∷ []));
     count = 0;
   } ∷ [];

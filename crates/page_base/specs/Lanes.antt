@@ -1,6 +1,6 @@
 -- What is seen of a lane: a stripe's share of one region's store.
 -- All of it is plain data, so that the paging model, the core and its callers speak of lanes without the trait that reads and writes them.
-use Rattle.std.specs.Prelude.{ℕ, ◌+◌, ◌-◌, ◌^◌, ◌≤◌, min, Bool, ◌&&◌, ◌==◌, nat_lt, List, slice_index_or, Option, None}
+use Rattle.std.specs.Prelude.{ℕ, ◌+◌, ◌-◌, ◌^◌, ◌≤◌, min, Bool, true, ◌&&◌, ◌==◌, nat_lt, List, [], slice_index_or, Option, None}
 use Rattle.page_base.specs.Backings.{Backing}
 use Rattle.page_base.specs.Pages.{stripe_of}
 
@@ -13,6 +13,15 @@ pub record Origin : Type 0 where
   pub group : ℕ  -- the pages that lie together
   pub stripes : ℕ
   pub stripe : ℕ
+  pub there : List Bool  -- by file: whether the store had it before it was opened; it had those that the list doesn't reach
+
+-- what is no folder of files was there as a whole
+abbrev pub all_there : List Bool
+all_there = []
+
+-- the store had this file before it was opened
+abbrev pub was_there : Origin → (file : ℕ) → Bool
+was_there o file = slice_index_or o.there file true
 
 -- the page is one of the lane's
 abbrev pub has_page : Origin → ℕ → Bool

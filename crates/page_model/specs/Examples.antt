@@ -4,7 +4,7 @@ use Rattle.histories.specs.Histories.{History, by}
 use Rattle.page_base.specs.declared.keys.Key.{Key}
 use Rattle.page_base.specs.declared.keys.Why.TheVariants.{Read, Write, Protected}
 use Rattle.page_base.specs.Backings.{in_memory}
-use Rattle.page_base.specs.Lanes.{LaneSeen}
+use Rattle.page_base.specs.Lanes.{LaneSeen, all_there}
 use Rattle.page_model.specs.declared.entry.Cause.TheVariants.{Pressure, Flush, Unmap}
 use Rattle.page_model.specs.declared.entry.HintAnswer.TheVariants as answer
 use Rattle.page_model.specs.declared.entry.Entry.{Entry}
@@ -15,7 +15,7 @@ use Rattle.page_model.specs.Setups.{Setup}
 -- memory that begins with zeros
 abbrev pub memory_lane : LaneSeen
 memory_lane = record {
-  origin = record { backing = in_memory; region = 0; pages = 3; page_size = 64; group = 1; stripes = 1; stripe = 0 };
+  origin = record { backing = in_memory; region = 0; pages = 3; page_size = 64; group = 1; stripes = 1; stripe = 0; there = all_there };
   told = replicate 3 (Some (replicate 64 0));
   count = 0;
 }

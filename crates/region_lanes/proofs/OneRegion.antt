@@ -5,7 +5,7 @@ use Rattle.std.specs.Prelude.{IfOk, OnOk}
 use Rattle.std.proofs.lemmas.List.{length-map, length-replicate, map-append}
 use Rattle.page_base.specs.Backings.{Backing, in_memory, in_file, in_files}
 use Rattle.page_base.specs.ListSeen.{ListSeen}
-use Rattle.page_base.specs.Lanes.{Origin, LaneSeen}
+use Rattle.page_base.specs.Lanes.{Origin, LaneSeen, all_there}
 use Rattle.page_base.specs.declared.layout.Layout.{Layout}
 use Rattle.store_trait.specs.Memory.{memory_origin, share_seen, told_by, page_bytes}
 use Rattle.store_trait.specs.MemLanes.{lane_seen, AreLanesOf}
@@ -42,7 +42,7 @@ memory_lanes folder layout region g lanes is are = record {
   each = λ s l at.
       let e = are.each s l at in
       record {
-        origin = ap (λ (x : LaneSeen). x.origin) e ∙ ap (λ (b : Backing). record { backing = b; region = region; pages = g.size / layout.page_size; page_size = layout.page_size; group = 1; stripes = layout.stripes; stripe = s }) (sym is);
+        origin = ap (λ (x : LaneSeen). x.origin) e ∙ ap (λ (b : Backing). record { backing = b; region = region; pages = g.size / layout.page_size; page_size = layout.page_size; group = 1; stripes = layout.stripes; stripe = s; there = all_there }) (sym is);
         fresh = ap (λ (x : LaneSeen). x.count) e;
         tells = subst (λ (b : Backing). IsOpenedIn b folder.told g l) (sym is) (subst (λ (x : LaneSeen). TellsShare x (replicate g.size 0)) (sym e) refl);
       };
@@ -56,7 +56,7 @@ file_tells files path o size (Some bytes) is whole fits = ap (reached_bytes (str
 
 file_lane : (told : Option Shelf) (layout : Layout) (region : ℕ) (g : NamedRegion) (path : List ℕ) (s : ℕ) (l : LaneSeen) → g.backing ≡ in_file path → g.size ≡ g.size / layout.page_size * layout.page_size → IfSome told (λ shelf. Suffices g.size (file_at shelf.files path)) → IsFileLane told path (cut_of layout region g) s l → IsRegionLane told layout region g s l
 file_lane told layout region g path s l is whole fits lane = record {
-  origin = lane.origin ∙ ap (λ (b : Backing). record { backing = b; region = region; pages = g.size / layout.page_size; page_size = layout.page_size; group = 1; stripes = layout.stripes; stripe = s }) (sym is);
+  origin = lane.origin ∙ ap (λ (b : Backing). record { backing = b; region = region; pages = g.size / layout.page_size; page_size = layout.page_size; group = 1; stripes = layout.stripes; stripe = s; there = all_there }) (sym is);
   fresh = lane.fresh;
   tells = subst (λ (b : Backing). IsOpenedIn b told g l) (sym is) (where_told told fits lane.tells);
 }

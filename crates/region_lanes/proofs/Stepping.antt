@@ -7,7 +7,7 @@ use Rattle.std.proofs.lemmas.Bool.{cases_lt, cases_Bool, and_from, and_parts, eq
 use Rattle.std.proofs.lemmas.List.{length-replicate, get_or-replicate}
 use Rattle.std.proofs.lemmas.Slice.Eq.{bytes_eq-Decides}
 use Rattle.page_base.specs.Backings.{Backing, in_memory, in_file, in_files}
-use Rattle.page_base.specs.Lanes.{Origin, LaneSeen}
+use Rattle.page_base.specs.Lanes.{Origin, LaneSeen, all_there}
 use Rattle.page_base.specs.declared.layout.Layout.{Layout}
 use Rattle.file_store.specs.Parts.{striped, PartName, WhereTold}
 use Rattle.file_store.specs.Shelves.{File, Shelf, FolderSeen, same_part, any_out}
@@ -164,7 +164,7 @@ module _ (layout : Layout) (regions : List NamedRegion) (good : AreGood layout.p
         let o : (lane_at more s i).origin ≡ region_origin layout.page_size layout.stripes s i g = (its_lane s h).origin in
         let name : stripe_name path (cut_of layout i g) s ≡ (part_of (lane_at more s i)).name =
         sym (ap (λ (q : Origin). let p : PartName = record { path = backing_path q.backing; extent = striped q } in p) o
-        ∙ ap (λ (b : Backing). let p : PartName = record { path = backing_path b; extent = striped (record { backing = b; region = i; pages = g.size / layout.page_size; page_size = layout.page_size; group = 1; stripes = layout.stripes; stripe = s }) } in p) is) in
+        ∙ ap (λ (b : Backing). let p : PartName = record { path = backing_path b; extent = striped (record { backing = b; region = i; pages = g.size / layout.page_size; page_size = layout.page_size; group = 1; stripes = layout.stripes; stripe = s; there = all_there }) } in p) is) in
         subst (λ (x : PartName). Contains (out ++ stripe_names path (cut_of layout i g)) x) name
         (in_right out (stripe_names path (cut_of layout i g)) (stripe_name path (cut_of layout i g) s)
         (in_map (stripe_name path (cut_of layout i g)) (range_with_len 0 layout.stripes) s (in_range 0 layout.stripes s (omega arith) (omega (arith, h)))))

@@ -2,7 +2,7 @@
 use Rattle.std.specs.Prelude.{◌≡◌, ℕ, ◌+◌, ◌*◌, ◌/◌, ◌%◌, ◌<◌, ◌≤◌, ⊤, Bool, true, false, not, List, [], length, take, replicate, slice_get, slice_index_or, Option, Some, None, unwrap_or, IfSome}
 use Rattle.std.specs.List.{list_all}
 use Rattle.page_base.specs.Backings.{Backing, in_memory, in_file, in_files}
-use Rattle.page_base.specs.Lanes.{Origin, LaneSeen, Rose, told_at}
+use Rattle.page_base.specs.Lanes.{Origin, LaneSeen, Rose, told_at, all_there}
 use Rattle.store_trait.specs.Memory.{told_by, page_bytes}
 use Rattle.file_store.specs.Folders.{IsShort, Suffices}
 use Rattle.file_store.specs.Parts.{PartName, WhereTold}
@@ -51,7 +51,7 @@ OfLanes seen P lanes = P (rows_of seen lanes)
 -- one stripe's share of a region
 abbrev pub region_origin : (page_size stripes stripe region : ℕ) → NamedRegion → Origin
 region_origin page_size stripes stripe region g =
-    record { backing = g.backing; region = region; pages = g.size / page_size; page_size = page_size; group = 1; stripes = stripes; stripe = stripe }
+    record { backing = g.backing; region = region; pages = g.size / page_size; page_size = page_size; group = 1; stripes = stripes; stripe = stripe; there = all_there }
 
 -- one lane for each stripe and region: for each stripe in order its lanes, in order of region
 pub record AreLanes (page_size stripes : ℕ) (regions : List NamedRegion) (rows : List (List LaneSeen)) : Type 0 where

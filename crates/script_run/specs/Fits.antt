@@ -3,7 +3,7 @@ use Rattle.std.specs.Prelude.{◌≡◌, ℕ, ◌/◌, ◌%◌, ◌==◌, ◌<�
 use Rattle.std.specs.List.{list_all, enumerate_from}
 use Rattle.page_base.specs.declared.limits.TheConstants.{MOST_FAULTS}
 use Rattle.page_base.specs.Backings.{in_memory}
-use Rattle.page_base.specs.Lanes.{Origin, LaneSeen}
+use Rattle.page_base.specs.Lanes.{Origin, LaneSeen, all_there}
 use Rattle.page_base.specs.declared.layout.Layout.{Layout}
 use Rattle.store_trait.specs.Memory.{memory_origin}
 use Rattle.workload_text.specs.Line.{Line}
@@ -21,7 +21,7 @@ page_counts page_size regions = map (λ (g : Region). g.size / page_size) region
 
 -- which pages of which region a lane has, wherever the region lies: a lane of the same pages in memory
 abbrev pub share_of : Origin → Origin
-share_of o = record o { backing = in_memory }
+share_of o = record o { backing = in_memory; there = all_there }
 
 abbrev pub shares_of : List (List LaneSeen) → List (List Origin)
 shares_of rows = map (λ (row : List LaneSeen). map (λ (l : LaneSeen). share_of l.origin) row) rows

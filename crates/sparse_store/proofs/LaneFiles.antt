@@ -27,19 +27,19 @@ use Rattle.sparse_store.specs.declared.meta.Meta.{Meta}
 
 -- ---- lists with one item written over
 
-set_here : {X : Type 0} (xs : List X) (i : ℕ) (x y : X) → slice_get xs i ≡ Some x → slice_get (slice_set xs i y) i ≡ Some y
+pub set_here : {X : Type 0} (xs : List X) (i : ℕ) (x y : X) → slice_get xs i ≡ Some x → slice_get (slice_set xs i y) i ≡ Some y
 set_here [] i x y e = absurd (cc)
 set_here (z ∷ xs) zero x y e = refl
 set_here (z ∷ xs) (suc i) x y e = set_here xs i x y e
 
-set_other : {X : Type 0} (xs : List X) (i k : ℕ) (y : X) → k ≢ i → slice_get (slice_set xs i y) k ≡ slice_get xs k
+pub set_other : {X : Type 0} (xs : List X) (i k : ℕ) (y : X) → k ≢ i → slice_get (slice_set xs i y) k ≡ slice_get xs k
 set_other [] i k y apart = refl
 set_other (z ∷ xs) zero zero y apart = absurd (apart refl)
 set_other (z ∷ xs) zero (suc k) y apart = refl
 set_other (z ∷ xs) (suc i) zero y apart = refl
 set_other (z ∷ xs) (suc i) (suc k) y apart = set_other xs i k y (λ e. apart (ap suc e))
 
-same_or_not : (j k : ℕ) → (j ≡ k) ⊎ (j ≢ k)
+pub same_or_not : (j k : ℕ) → (j ≡ k) ⊎ (j ≢ k)
 same_or_not j k = elim (cases_order j k) [
   | inl same ↦ inl same
   | inr (inl lt) ↦ inr (λ e. omega (arith, lt, e))
@@ -48,7 +48,7 @@ same_or_not j k = elim (cases_order j k) [
 
 -- ---- numbers of one stripe
 
-rows_apart : (i j n : ℕ) → i < j → i * n + n ≤ j * n
+pub rows_apart : (i j n : ℕ) → i < j → i * n + n ≤ j * n
 rows_apart i j n h = omega (arith, mul-le (i + 1) n j n (omega arith) (omega arith))
 
 not_below : (n r p q : ℕ) → 0 < n → (r + p) % n ≡ (r + q) % n → p / n ≡ q / n → q ≤ p

@@ -1,5 +1,5 @@
 -- Where the pages of a lane lie in its files.
-use Rattle.std.proofs.Common.{◌≡◌, inl, inr, ℕ, ◌*◌, ◌/◌, ◌%◌, ◌<◌, true, List, length, refl, ap, subst, ◌∙◌, arith}
+use Rattle.std.proofs.Common.{◌≡◌, inl, inr, ℕ, ◌*◌, ◌/◌, ◌%◌, ◌<◌, Bool, true, List, length, refl, ap, subst, ◌∙◌, arith}
 use Rattle.std.proofs.lemmas.Bool.{cases_lt, and_parts, eqb-true, ltb-true}
 use Rattle.std.proofs.lemmas.Nat.{div-add-mod', mul-le}
 use Rattle.std.proofs.Math.Nat.{mul-div_cancel}
@@ -7,13 +7,13 @@ use Rattle.page_base.specs.Lanes.{has_page}
 use Rattle.page_base.specs.declared.layout.Layout.{Layout}
 use Rattle.file_store.specs.Parts.{PartSeen}
 use Rattle.sparse_store.specs.Files.{IsShape, file_count}
-use Rattle.sparse_store.specs.InsideLaneFiles.{HasWholePages, AreLaneFiles, IsPagePlace}
+use Rattle.sparse_store.specs.InsideLaneFiles.{AreLaneFiles, IsPagePlace}
 use Rattle.sparse_store.specs.LaneLaws.{page_within}
-use Rattle.sparse_store.specs.SparseLanes.{sparse_origin}
+use Rattle.sparse_store.specs.SparseLanes.{HasWholePages, sparse_origin}
 use Rattle.sparse_store.specs.declared.meta.Meta.{Meta}
 
 -- n groups have numbers below n
-group_below : (page group n : ℕ) → page < n * group → page / group < n
+pub group_below : (page group n : ℕ) → page < n * group → page / group < n
 group_below page group n below = elim (cases_lt (page / group) n) [
   | inl h ↦ h
   | inr far ↦ absurd (omega (arith, below, mul-le n group (page / group) group far (omega arith), div-add-mod' page group))
@@ -21,7 +21,7 @@ group_below page group n below = elim (cases_lt (page / group) n) [
 
 module _ (m : Meta) (layout : Layout) (shape : IsShape m) (cut : HasWholePages m layout) where
   -- so many pages as all files have
-  pages_of_files : m.size / layout.page_size ≡ file_count m * (m.file / layout.page_size)
+  pub pages_of_files : m.size / layout.page_size ≡ file_count m * (m.file / layout.page_size)
   pages_of_files =
       let size = layout.page_size in
       let some : 0 < size = omega (arith, layout.large_pages) in
@@ -30,9 +30,9 @@ module _ (m : Meta) (layout : Layout) (shape : IsShape m) (cut : HasWholePages m
 
   module _ (dir : List ℕ) (region stripe : ℕ) (parts : List PartSeen) (are : AreLaneFiles dir m layout region stripe parts) where
     -- the file of a lane's page is one of the lane's
-    pub page_is_placed : (off : ℕ) → has_page (sparse_origin dir m layout region stripe) (off / layout.page_size) ≡ true
-        → IsPagePlace (sparse_origin dir m layout region stripe) m (length parts) off (off / layout.page_size / (m.file / layout.page_size) / layout.stripes) (off / layout.page_size % (m.file / layout.page_size) * layout.page_size)
-    page_is_placed off has =
+    pub page_is_placed : (there : List Bool) (off : ℕ) → has_page (sparse_origin dir m layout region stripe there) (off / layout.page_size) ≡ true
+        → IsPagePlace (sparse_origin dir m layout region stripe there) m (length parts) off (off / layout.page_size / (m.file / layout.page_size) / layout.stripes) (off / layout.page_size % (m.file / layout.page_size) * layout.page_size)
+    page_is_placed there off has =
         let page = off / layout.page_size in
         let group = m.file / layout.page_size in
         let two = and_parts _ _ has in

@@ -9,3 +9,10 @@ pub mod ClosingParts
 pub mod Creating
 pub mod LookedAt
 pub mod OpeningFiles
+pub mod Dealing
+pub mod Splitting
+pub mod Joined
+pub mod LaneTells
+pub mod LaneClosing
+pub mod Joining
+pub mod LaneOrigins

@@ -1,6 +1,7 @@
 -- Lists by the numbers of their items.
 use Rattle.std.specs.Option.{IfSome}
-use Rattle.std.proofs.Common.{◌≡◌, ◌⊎◌, inl, inr, ℕ, zero, suc, ◌+◌, ◌<◌, List, [], ◌∷◌, ◌++◌, map, length, slice_get, Option, Some, None, refl, sym, ap, ◌∙◌, arith}
+use Rattle.std.proofs.Common.{◌≡◌, ◌⊎◌, inl, inr, ℕ, zero, suc, ◌+◌, ◌<◌, List, [], ◌∷◌, ◌++◌, map, length, get_or, take, drop, slice_get, Option, Some, None, refl, sym, ap, ◌∙◌, arith}
+use Rattle.std.proofs.lemmas.List.{places, same_lists}
 
 pub some_is : {X : Type 0} {a b : X} → Some a ≡ Some b → a ≡ b
 some_is {X} {a} {b} e = ap (from a) e
@@ -41,3 +42,16 @@ grown (y ∷ xs) new x (suc k) e = elim (grown xs new x k e) [
 pub if_some : {X : Type 0} {P Q : X → Type 0} (t : Option X) → ((x : X) → P x → Q x) → IfSome t P → IfSome t Q
 if_some None f p = tt
 if_some (Some x) f p = f x p
+
+pub got_at : {X : Type 0} (xs : List X) (k : ℕ) (d : X) → k < length xs → slice_get xs k ≡ Some (get_or xs k d)
+got_at [] k d below = absurd (omega (arith, below))
+got_at (x ∷ xs) zero d below = refl
+got_at (x ∷ xs) (suc k) d below = got_at xs k d (omega (arith, below))
+
+pub none_left : {X : Type 0} (xs : List X) → length xs ≡ 0 → xs ≡ []
+none_left [] e = refl
+none_left (x ∷ xs) e = absurd (omega (arith, e))
+
+-- a list written over as a whole
+pub written_over : {X : Type 0} (n : ℕ) (xs ys : List X) → length ys ≡ n → length xs ≡ n → take n (xs ++ drop (length xs) ys) ≡ xs
+written_over n xs ys e f = same_lists _ _ (grind (arith, places)) (λ k d h. grind (arith, places))

@@ -1,5 +1,5 @@
 -- The laws of the trait for lanes of sparse stores: each page that they tell is whole, and their counts have 64 bits.
-use Rattle.std.specs.Prelude.{◌≡◌, ℕ, ◌+◌, ◌*◌, ◌/◌, ◌%◌, ◌^◌, ◌<◌, ◌≤◌, List, map, length, replicate, slice_get, Option, Some, None, sum_by}
+use Rattle.std.specs.Prelude.{◌≡◌, ℕ, ◌+◌, ◌*◌, ◌/◌, ◌%◌, ◌^◌, ◌<◌, ◌≤◌, Bool, List, map, length, replicate, slice_get, Option, Some, None, sum_by}
 use Rattle.std.proofs.Common.{cond, inl, inr, refl, sym, ap, subst, ◌∙◌, arith, zero-add}
 use Rattle.std.specs.Option.{IfSome, option_map}
 use Rattle.std.proofs.lemmas.Bool.{cases_lt, cases_Bool, cond-true, cond-false, and_left, le-ltb}
@@ -13,9 +13,9 @@ use Rattle.store_trait.specs.SmallCounts.{capped_is_small}
 use Rattle.store_trait.specs.WholePages.{length-page_of}
 use Rattle.file_store.specs.Parts.{PartName, PartSeen, piece_size}
 use Rattle.sparse_store.specs.Files.{IsShape}
-use Rattle.sparse_store.specs.InsideLaneFiles.{HasWholePages, AreLaneFiles}
+use Rattle.sparse_store.specs.InsideLaneFiles.{AreLaneFiles}
 use Rattle.sparse_store.specs.SparseFiles.{file_bytes}
-use Rattle.sparse_store.specs.SparseLanes.{sparse_origin, bytes_in, file_among, page_of_file, sparse_told, count_of_all, sparse_seen}
+use Rattle.sparse_store.specs.SparseLanes.{HasWholePages, sparse_origin, bytes_in, file_among, page_of_file, sparse_told, count_of_all, sparse_seen}
 use Rattle.sparse_store.specs.declared.meta.Meta.{Meta}
 
 pub length-sparse_told : (o : Origin) (files : ℕ → Option (List ℕ)) → length (sparse_told o files) ≡ o.pages
@@ -35,7 +35,7 @@ page_within group page_size file page some whole = elim (cases_lt 0 group) [
 ]
 
 -- the bytes of a file are as many as its part has
-whole_file : (file : ℕ) (p : PartSeen) → piece_size p.name.extent ≡ file → IfSome (told_at p.told 0) (λ bytes. length bytes ≡ piece_size p.name.extent) → IfSome (file_bytes p) (λ bytes. length bytes ≡ file)
+pub whole_file : (file : ℕ) (p : PartSeen) → piece_size p.name.extent ≡ file → IfSome (told_at p.told 0) (λ bytes. length bytes ≡ piece_size p.name.extent) → IfSome (file_bytes p) (λ bytes. length bytes ≡ file)
 whole_file file p size whole = elim (cases_Bool p.made) [
   | inl made ↦ subst P (sym (cond-true p.made (told_at p.told 0) zeros made)) (kept (told_at p.told 0) whole)
   | inr none ↦ subst P (sym (cond-false p.made (told_at p.told 0) zeros none)) (blank (told_at p.told 0))
@@ -74,9 +74,9 @@ module _ {P : Type 0} (seen : P → PartSeen) (whole : (x : P) (piece : ℕ) →
       go (Some x) e = whole_file m.file (seen x) (ap (λ (n : PartName). piece_size n.extent) (are.names place (seen x) (slice_get-map seen xs place ∙ ap (option_map seen) e))) (whole x 0)
 
   -- and each page that it tells
-  pub pages_are_whole : (page : ℕ) → IfSome (told_at (sparse_seen (sparse_origin dir m layout region stripe) (map seen xs)).told page) (λ bytes. length bytes ≡ layout.page_size)
-  pages_are_whole page =
-      let o = sparse_origin dir m layout region stripe in
+  pub pages_are_whole : (there : List Bool) (page : ℕ) → IfSome (told_at (sparse_seen (sparse_origin dir m layout region stripe there) (map seen xs)).told page) (λ bytes. length bytes ≡ layout.page_size)
+  pages_are_whole there page =
+      let o = sparse_origin dir m layout region stripe there in
       let files : ℕ → Option (List ℕ) = file_among o.stripes (map seen xs) in
       let F : Option (List ℕ) → Type 0 = λ t. IfSome t (λ bytes. length bytes ≡ layout.page_size) in
       subst F (sym (told_at-sparse_told o files page)) (elim (cases_Bool (has_page o page)) [

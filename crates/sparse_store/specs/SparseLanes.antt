@@ -1,5 +1,5 @@
 -- One stripe's files of a store, as a lane: which pages it has, what it tells of them, and how many of its calls failed.
-use Rattle.std.specs.Prelude.{ℕ, ◌-◌, ◌/◌, ◌%◌, ◌^◌, min, if◌then◌else◌, List, map, slice_get, Option, Some, None, sum_by}
+use Rattle.std.specs.Prelude.{◌≡◌, ℕ, ◌-◌, ◌*◌, ◌/◌, ◌%◌, ◌^◌, min, Bool, if◌then◌else◌, List, map, slice_get, Option, Some, None, sum_by}
 use Rattle.std.specs.Option.{option_map}
 use Rattle.std.specs.List.{range_with_len}
 use Rattle.page_base.specs.Backings.{in_files}
@@ -10,9 +10,17 @@ use Rattle.file_store.specs.Parts.{PartSeen}
 use Rattle.sparse_store.specs.SparseFiles.{file_bytes}
 use Rattle.sparse_store.specs.declared.meta.Meta.{Meta}
 
+-- whole pages lie in one file
+abbrev pub HasWholePages : Meta → Layout → Type 0
+HasWholePages m layout = m.file ≡ m.file / layout.page_size * layout.page_size
+
+-- which files of a store are there, by the parts of all its files
+abbrev pub there_in : List PartSeen → List Bool
+there_in parts = map (λ (p : PartSeen). p.made) parts
+
 -- which lane a stripe's is, of the store in a folder that is this region
-abbrev pub sparse_origin : (dir : List ℕ) → Meta → Layout → (region stripe : ℕ) → Origin
-sparse_origin dir m layout region stripe = record {
+abbrev pub sparse_origin : (dir : List ℕ) → Meta → Layout → (region stripe : ℕ) → (there : List Bool) → Origin
+sparse_origin dir m layout region stripe there = record {
   backing = in_files dir m.file;
   region = region;
   pages = m.size / layout.page_size;
@@ -20,6 +28,7 @@ sparse_origin dir m layout region stripe = record {
   group = m.file / layout.page_size;
   stripes = layout.stripes;
   stripe = stripe;
+  there = there;
 }
 
 -- ---- contents

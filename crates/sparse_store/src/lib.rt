@@ -1,6 +1,5 @@
-//! Sparse stores: many files of one length in a folder, as one region. What stands so far is the text of a store's metadata,
-//! the store as a whole, created, opened and closed, and reading and writing a stripe's share of it; splitting a store into such
-//! lanes is still to come.
+//! Sparse stores: many files of one length in a folder, as one region. There is the text of a store's metadata; the store as a
+//! whole, created, opened, split into one lane for each stripe, joined again, and closed; and a lane, read, written and closed.
 //!
 //! It stands on the folders and parts of `file_store`, on `page_base`, and on the kit's `itoa` and `thiserror`. `read_meta`
 //! promises that it accepts exactly the texts that `meta_text` prints, and names of any other how far it goes with one;
@@ -11,14 +10,19 @@
 mod close;
 mod fault;
 mod file;
+mod join;
 mod lane;
+mod laws;
 mod meta;
 mod paths;
+mod split;
 mod store;
 #[cfg(test)]
 mod tests;
 
 pub use fault::SparseFault;
 pub use lane::SparseLane;
+pub use laws::origins_tell_files;
 pub use meta::{BadMeta, META_ROOM, MOST_META_NUMBER, Meta, read_meta, write_meta};
+pub use split::SparseBack;
 pub use store::{MOST_FILES, SparseStore};

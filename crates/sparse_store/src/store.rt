@@ -1,8 +1,9 @@
 //! A store of many files, created and opened over a folder, and closed.
-ghost use Rattle.std.specs.Prelude.{◌≡◌, ◌≤◌, [], ◌∷◌, true, map, None, is_some, IfSome, IfOk, IfErr, OnOk, OnErr};
+ghost use Rattle.std.specs.Prelude.{◌≡◌, ◌≤◌, [], ◌∷◌, true, map, Some, None, is_some, IfSome, IfOk, IfErr, OnOk, OnErr};
 ghost use Rattle.page_base.specs.Lanes.{Rose};
 ghost use Rattle.file_store.specs.Parts.{WhereTold};
 ghost use Rattle.file_store.specs.Folders.{AreOut, OfFile, HasFolderCause, WritesNew, OnlyFile, RefusesNew, IsFailed, IsOpenedWhole, whole_name};
+ghost use Rattle.sparse_store.specs.Contents.{contents_of, joined_in};
 ghost use Rattle.sparse_store.specs.Closings.{ArePartsOut, ClosesEach, HasSame, any_fault};
 ghost use Rattle.sparse_store.specs.Files.{IsShape, NoneOutIn, AreFilesOpened, file_names, file_path};
 ghost use Rattle.sparse_store.specs.InsideStores.{AreFiles};
@@ -25,11 +26,11 @@ pub const MOST_FILES: u64 = 4096;
 /// The files of one length in a folder, in order of number, as one sequence of bytes.
 #[derive(Drop)]
 pub struct SparseStore<P: Part> {
-    dir: Bytes,
-    shape: Meta,
-    parts: List<P>,
-    ghost shaped: { IsShape shape },
-    ghost files: { AreFiles P.seen dir.items shape parts.items },
+    pub(crate) dir: Bytes,
+    pub(crate) shape: Meta,
+    pub(crate) parts: List<P>,
+    pub(crate) ghost shaped: { IsShape shape },
+    pub(crate) ghost files: { AreFiles P.seen dir.items shape parts.items },
 }
 
 /// Opens the file of this number.
@@ -158,6 +159,8 @@ impl<P: Part + Drop> SparseStore<P> {
         ensures shape { IfOk result (λ store. store.shape ≡ shape) }
         ensures parts { IfOk result (λ store. AreFilesOpened
             P.seen (F.seen folder.old).told dir.now.items shape store.parts.items) }
+        ensures contents { OfFiles (F.seen folder.old) (λ files. IfOk result (λ store.
+            contents_of (map P.seen store.parts.items) ≡ Some (joined_in files dir.now.items shape))) }
         ensures ours { IfOk result (λ store. ArePartsOut P.seen (F.seen folder.new) store.parts.items) }
         ensures created { OnOk result (WhereTold (Creates dir.now.items shape)
             (F.seen folder.old).told (F.seen folder.new).told) }
@@ -199,6 +202,8 @@ impl<P: Part + Drop> SparseStore<P> {
         ensures shape { IfOk result (λ store. store.shape ≡ asked) }
         ensures parts { IfOk result (λ store. AreFilesOpened
             P.seen (F.seen folder.old).told dir.now.items asked store.parts.items) }
+        ensures contents { OfFiles (F.seen folder.old) (λ files. IfOk result (λ store.
+            contents_of (map P.seen store.parts.items) ≡ Some (joined_in files dir.now.items asked))) }
         ensures ours { IfOk result (λ store. ArePartsOut P.seen (F.seen folder.new) store.parts.items) }
         ensures out { OnOk result (AreOut (file_names dir.now.items asked) (F.seen folder.old) (F.seen folder.new)) }
         ensures err { OnErr result (WhereTold HasSame (F.seen folder.old).told (F.seen folder.new).told) }

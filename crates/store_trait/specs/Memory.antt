@@ -2,7 +2,7 @@
 use Rattle.std.specs.Prelude.{ℕ, ◌+◌, ◌*◌, ◌/◌, if◌then◌else◌, List, map, slice_range, Option, Some, None}
 use Rattle.std.specs.List.{range_with_len}
 use Rattle.page_base.specs.Backings.{in_memory}
-use Rattle.page_base.specs.Lanes.{Origin, LaneSeen, has_page}
+use Rattle.page_base.specs.Lanes.{Origin, LaneSeen, has_page, all_there}
 
 -- one page of bytes that lie page by page
 abbrev pub page_bytes : (page_size : ℕ) → List ℕ → (page : ℕ) → List ℕ
@@ -11,7 +11,7 @@ page_bytes page_size bytes page = slice_range bytes (page * page_size) (page * p
 -- one stripe's lane of a region in memory, whose pages go round the stripes one by one
 abbrev pub memory_origin : (region pages page_size stripes stripe : ℕ) → Origin
 memory_origin region pages page_size stripes stripe =
-    record { backing = in_memory; region = region; pages = pages; page_size = page_size; group = 1; stripes = stripes; stripe = stripe }
+    record { backing = in_memory; region = region; pages = pages; page_size = page_size; group = 1; stripes = stripes; stripe = stripe; there = all_there }
 
 -- what a lane tells whose pages have the bytes that a function gives, and which tells of no other page
 abbrev pub told_by : Origin → (ℕ → List ℕ) → List (Option (List ℕ))

@@ -1,7 +1,7 @@
-use Rattle.std.proofs.Common.{◌≡◌, ◌/◌, length, sym, subst, arith}
+use Rattle.std.proofs.Common.{◌≡◌, ◌/◌, length, map, sym, subst, arith}
 use Rattle.std.specs.Option.{IfSome}
 use Rattle.sparse_store.specs.LaneLaws.{each_whole}
-use Rattle.sparse_store.specs.SparseLanes.{bytes_in, sparse_origin}
+use Rattle.sparse_store.specs.SparseLanes.{bytes_in, there_in, sparse_origin}
 use Rattle.sparse_store.proofs.LaneFiles.{seen_here, lane_files_stay, lane_range, lane_writes, lane_keeps, lane_went, lane_failed}
 use Rattle.sparse_store.proofs.lane.SparseLaneStore.write_to_store.Goals as goal
 
@@ -25,7 +25,7 @@ returns-in-Ok-clause-written g c =
     let seen = g.P.Part.seen in
     let l = c.args.self.now in
     let at = c.place_of-place in
-    let o = sparse_origin l.dir.items l.shape l.layout l.region l.stripe in
+    let o = sparse_origin l.dir.items l.shape l.layout l.region l.stripe (there_in (map g.P.Part.seen l.first.value.items)) in
     let here = seen_here seen l.parts.items at.result.file c.get_mut.result.now c.write.new.part c.get_mut.ensures.value in
     lane_writes seen l.parts.items at.result.file c.get_mut.result.now c.write.new.part c.get_mut.ensures.value o (omega (arith, l.layout.some_stripe))
     (c.args.off / o.page_size) c.requires.place.of_lane (sym at.ensures.place_is) c.args.buf.now at.result.start l.shape.file at.ensures.start_is c.requires.place.one_page at.ensures.within
@@ -35,7 +35,7 @@ pub returns-in-Ok-clause-others : goal.returns-in-Ok-clause-others
 returns-in-Ok-clause-others g c =
     let l = c.args.self.now in
     let at = c.place_of-place in
-    let o = sparse_origin l.dir.items l.shape l.layout l.region l.stripe in
+    let o = sparse_origin l.dir.items l.shape l.layout l.region l.stripe (there_in (map g.P.Part.seen l.first.value.items)) in
     lane_keeps g.P.Part.seen l.parts.items at.result.file c.get_mut.result.now c.write.new.part c.get_mut.ensures.value o (omega (arith, l.layout.some_stripe))
     (c.args.off / o.page_size) c.requires.place.of_lane (sym at.ensures.place_is) at.result.start (length c.args.buf.now) at.ensures.start_is c.requires.place.one_page c.write.ensures.others
 
@@ -48,7 +48,7 @@ pub returns-in-Err-clause-others : goal.returns-in-Err-clause-others
 returns-in-Err-clause-others g c =
     let l = c.args.self.now in
     let at = c.place_of-place in
-    let o = sparse_origin l.dir.items l.shape l.layout l.region l.stripe in
+    let o = sparse_origin l.dir.items l.shape l.layout l.region l.stripe (there_in (map g.P.Part.seen l.first.value.items)) in
     lane_keeps g.P.Part.seen l.parts.items at.result.file c.get_mut.result.now c.write.new.part c.get_mut.ensures.value o (omega (arith, l.layout.some_stripe))
     (c.args.off / o.page_size) c.requires.place.of_lane (sym at.ensures.place_is) at.result.start (length c.args.buf.now) at.ensures.start_is c.requires.place.one_page c.write.ensures.others
 

@@ -1,4 +1,4 @@
-use Rattle.std.proofs.Common.{◌≡◌, ℕ, List, map, Option, None, sym, subst, ◌∙◌}
+use Rattle.std.proofs.Common.{◌≡◌, ℕ, List, map, Option, Some, None, sym, subst, ◌∙◌}
 use Rattle.std.specs.Option.{IfSome}
 use Rattle.file_store.specs.Parts.{WhereTold}
 use Rattle.file_store.specs.Shelves.{Shelf, file_at}
@@ -10,6 +10,8 @@ use Rattle.sparse_store.specs.InsideStores.{AreFiles}
 use Rattle.sparse_store.specs.Openings.{of_folder, LeavesFiles}
 use Rattle.sparse_store.proofs.PartLists.{if_some}
 use Rattle.sparse_store.proofs.Creating.{are_files, parts_apart, parts_out, refused, not_there}
+use Rattle.sparse_store.specs.Contents.{contents_of, joined_in}
+use Rattle.sparse_store.proofs.Joined.{opened_contents}
 use Rattle.sparse_store.proofs.store.SparseStore.create.Goals as goal
 
 pub invariant_of-result : goal.invariant_of-result
@@ -61,3 +63,12 @@ returns-clause-err g c =
     (subst (λ (t : Option Shelf). IfSome t (λ s. file_at s.files path ≡ None)) (sym same) absent)
     c.in-Err.ensures.others c.in-Err.ensures.written
     (subst (λ (xs : List _). WhereTold (ClosesEach (map seen xs)) now.told new.told) c.into_vec.ensures c.close_parts.ensures.closed)))
+
+pub returns-in-Ok-clause-contents : goal.returns-in-Ok-clause-contents
+returns-in-Ok-clause-contents g c =
+    let seen = g.P.Part.seen in
+    let dir = c.args.dir.now.items in
+    let parts = c.in_ok-parts.parts.items in
+    let before = g.F.Folder.seen c.stands.new.folder in
+    subst (λ (t : Option Shelf). IfSome t (λ s. contents_of (map seen parts) ≡ Some (joined_in s.files dir c.args.shape))) c.in_ok-stands.ensures.same
+    (opened_contents seen before.told dir c.args.shape parts c.in_ok-parts.ensures.parts)
