@@ -29,9 +29,10 @@ use Rattle.script_run.specs.LineEntries.{AllMake, unmap_lines}
 use Rattle.script_run.specs.Replies.{is_fault_reply, replies_text}
 use Rattle.script_run.specs.Tables.{table_of}
 use Rattle.script_run.specs.InsideRooms.{rooms}
-use Rattle.script_run.specs.InsideRunning.{IsShaped, StaysMade, StandsBy, MayRun, Ran, DidLines, UnmapsLast, OpensOn}
+use Rattle.script_run.specs.InsideRunning.{IsShaped, StaysMade, StandsBy, MayRun, Ran, DidLines, OpensOn}
 use Rattle.script_run.specs.declared.replies.Replies.{Replies}
 use Rattle.script_run.specs.declared.settings.Settings.{Settings}
+use Rattle.script_run.proofs.LastUnmaps.{UnmapsLast}
 use Rattle.script_run.proofs.EndedOn.{EndAt, end_at, origins_kept}
 use Rattle.script_run.proofs.FittedLanes.{there, lane_there}
 use Rattle.script_run.proofs.Lists.{some_is}

@@ -52,14 +52,6 @@ pub last_only : (n : ℕ) → list_all only_unmaps (unmap_lines n) ≡ true
 last_only zero = refl
 last_only (suc n) = list_all-append only_unmaps (unmap_lines n) (unmap_line n ∷ []) ∙ and_from (list_all only_unmaps (unmap_lines n)) true (last_only n) refl
 
-pub last_fit : (gs : List Region) (n : ℕ) → n ≤ length gs → AllFit gs (unmap_lines n)
-last_fit gs zero few = tt
-last_fit gs (suc n) few = both (unmap_lines n) (last_fit gs n (omega (arith, few)))
-  where
-    both : (ls : List Line) → AllFit gs ls → AllFit gs (ls ++ unmap_line n ∷ [])
-    both [] h = (omega (arith, few), tt)
-    both (l ∷ ls) h = (h.0, both ls h.1)
-
 append_none : {A : Type 0} (xs ys : List A) → xs ++ ys ≡ [] → (xs ≡ []) × (ys ≡ [])
 append_none [] ys e = (refl, e)
 append_none (x ∷ xs) ys e = absurd (cc)

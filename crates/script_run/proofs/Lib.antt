@@ -35,6 +35,7 @@ pub mod DidLines
 pub mod Raised
 pub mod NamedCounts
 pub mod States
+pub mod LastUnmaps
 pub mod Lasts
 pub mod Answered
 pub mod FromJournals

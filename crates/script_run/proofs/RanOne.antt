@@ -20,8 +20,8 @@ use Rattle.workload_text.specs.Accepted.{command_count}
 use Rattle.flat_lines.specs.Spreads.{Spread, stripe_in, piece_key}
 use Rattle.script_run.specs.InsideRanges.{IsRange, GoesBy, RangeEnds, LoadsRange, LoadEnds, SavesRange, StoreEnds, IsOpenRange, closes_there}
 use Rattle.script_run.specs.InsideRooms.{end_reply, unmap_reply, IsKnownEnd, IsKnownError, room}
-use Rattle.script_run.specs.InsideRunning.{IsShaped, StripesAgree, StandsBy, DidLines, Ran, UnmapsOne}
-use Rattle.script_run.specs.LineEntries.{Accesses, Failure, LineGoes, MakesInOrder, Fails, FindsClosing, FaultsInOpen, may_make, unmap_lines}
+use Rattle.script_run.specs.InsideRunning.{IsShaped, StripesAgree, StandsBy, DidLines, Ran}
+use Rattle.script_run.specs.LineEntries.{Accesses, Failure, LineGoes, MakesInOrder, Fails, FindsClosing, FaultsInOpen, may_make}
 use Rattle.script_run.specs.Replies.{Reply, begun, loaded, ok, unmapped, fault, reply_text, is_fault_reply, bytes_shown}
 use Rattle.script_run.specs.declared.replies.Replies.{Replies}
 use Rattle.script_run.specs.declared.access.AccessEnd.{AccessEnd}
@@ -152,32 +152,6 @@ module _ {J : Type 0} (t : Spread) (gs : List Region) (p : PagerSeen J) (shaped 
     pub did_unmap_end : (r : ℕ) → r < length gs → (e : UnmapError) → ClosesOnly r p q → EndsUnmap 0 has_noted r p q e → DidLines has_noted t (unmap_line r ∷ []) (unmap_reply e ∷ []) p q
     did_unmap_end r known unmap_error.Unmapped same x = unmapped_did has_noted agree t gs p q shaped (stays_closing r p q same) r known x.0 x.1
     did_unmap_end r known (unmap_error.Fault f) same x = unmap_failed has_noted agree t gs p q shaped (stays_closing r p q same) r known f x
-
--- ---- regions that are unmapped in the end
-
-module _ (agree : StripesAgree) {J : Type 0} (has_noted : J → History Entry → Type 0) (p q : PagerSeen J) (r : ℕ) (known : r < length p.shapes) (same : ClosesOnly r p q) where
-  its_region : (t : Spread) (gs : List Region) → IsShaped t gs p → r < length gs
-  its_region t gs shaped = subst (λ n. r < n) (regions_are t gs p shaped) known
-
-  pub one_ok : UnmapsEach 0 has_noted r p q → UnmapsOne has_noted r false p q
-  one_ok u = record {
-    reply = ok;
-    failed_is = refl;
-    same = stays_closing r p q same;
-    did = λ t gs shaped. did_unmap t gs p shaped agree has_noted q r (its_region t gs shaped) same u;
-  }
-
-  pub one_end : (e : UnmapError) → EndsUnmap 0 has_noted r p q e → UnmapsOne has_noted r (is_fault_reply (unmap_reply e)) p q
-  one_end e x = record {
-    reply = unmap_reply e;
-    failed_is = refl;
-    same = stays_closing r p q same;
-    did = λ t gs shaped. did_unmap_end t gs p shaped agree has_noted q r (its_region t gs shaped) e same x;
-  }
-
--- one region more
-pub unmap_next : (n : ℕ) → unmap_lines (n + 1) ≡ unmap_lines n ++ unmap_line n ∷ []
-unmap_next n = let e : n + 1 ≡ suc n = omega arith in ap unmap_lines e
 
 -- ---- lines that ran
 

@@ -15,7 +15,7 @@ use Rattle.serial_pager.specs.Seen.{StripeSeen}
 use Rattle.serial_pager.specs.Pagers as pagers
 use Rattle.serial_pager.specs.Pagers.{PagerSeen, core_at, WentAll}
 use Rattle.workload_text.specs.declared.limits.TheConstants.{MOST_STORED_BYTES, MOST_ACCESS_BYTES, MOST_LOADED_BYTES}
-use Rattle.workload_text.specs.Line.{Line, unmap_line}
+use Rattle.workload_text.specs.Line.{Line}
 use Rattle.workload_text.specs.View.{lines_of, command_line}
 use Rattle.workload_text.specs.declared.workload.Command.{Command}
 use Rattle.workload_text.specs.declared.workload.Workload.{Workload}
@@ -29,7 +29,7 @@ use Rattle.script_run.specs.Replies.{Reply, replies_text, is_fault_reply, bytes_
 use Rattle.flat_lines.specs.Spreads.{Spread}
 use Rattle.script_run.specs.FitsSerial.{spread_of}
 use Rattle.script_run.specs.FitsJournals.{setup_at}
-use Rattle.script_run.specs.LineEntries.{AllMake, unmap_lines}
+use Rattle.script_run.specs.LineEntries.{AllMake}
 use Rattle.script_run.specs.InsideRanges.{pages_at}
 use Rattle.script_run.specs.declared.replies.Replies.{Replies}
 use Rattle.script_run.specs.declared.settings.Settings.{Settings}
@@ -95,19 +95,6 @@ module _ {J : Type 0} where
     pub faulted : new.faulted ≡ (old.faulted || list_any is_fault_reply replies)
     pub pieces : q.spent ≤ p.spent + MOST_ACCESS_BYTES * command_count lines
     pub did : DidLines has_noted t lines replies p q
-
-  -- a region was unmapped, as a line would that is answered to nobody
-  pub record UnmapsOne (has_noted : J → History Entry → Type 0) (region : ℕ) (failed : Bool) (p q : PagerSeen J) : Type 0 where
-    pub reply : Reply
-    pub failed_is : failed ≡ is_fault_reply reply
-    pub same : StaysMade p q
-    pub did : (t : Spread) (gs : List Region) → IsShaped t gs p → DidLines has_noted t (unmap_line region ∷ []) (reply ∷ []) p q
-
-  -- each of so many regions was unmapped, as lines would that are answered to nobody
-  pub record UnmapsLast (has_noted : J → History Entry → Type 0) (count : ℕ) (failed : Bool) (p q : PagerSeen J) : Type 0 where
-    pub replies : List Reply
-    pub failed_is : failed ≡ list_any is_fault_reply replies
-    pub did : (t : Spread) (gs : List Region) → IsShaped t gs p → DidLines has_noted t (unmap_lines count) replies p q
 
   -- a run of these lines over these lanes may be opened, with a journal for each stripe
   pub record MayOpen (c : Settings) (table : TableSeen) (lines : List Line) (rows : List (List LaneSeen)) (journals : List J) : Type 0 where

@@ -4,7 +4,6 @@
 //! the journals in their list.
 ghost use Rattle.std.specs.Prelude.{◌≡◌, ◌+◌, ◌*◌, ◌^◌, ◌<◌, ◌≤◌, ◌||◌, ◌∷◌, ◌++◌, [], ℕ, Some, true, length, map, slice_get, IfOk, IfErr};
 ghost use Rattle.serial_pager.specs.Pagers.{rows_of, journals_made};
-ghost use Rattle.page_base.specs.declared.limits.TheConstants.{MOST_STRIPES};
 ghost use Rattle.workload_text.specs.Line.{load_line, store_line, flush_line, unmap_line};
 ghost use Rattle.workload_text.specs.View.{lines_of, script_lines, command_line};
 ghost use Rattle.workload_text.specs.Built.{is_built};
@@ -12,7 +11,7 @@ ghost use Rattle.workload_text.specs.Accepted.{IsRunnable, regions_of};
 ghost use Rattle.script_run.specs.Fits.{LanesFit, AreInRange};
 ghost use Rattle.script_run.specs.Ends.{lanes_in, origins_in, FitsRun};
 ghost use Rattle.script_run.specs.InsideRooms.{fault_room, fault_of, end_reply, unmap_reply, IsKnownEnd, IsKnownError};
-ghost use Rattle.script_run.specs.InsideRunning.{MayRunOf, RanOf, RanOne, UnmapsOne, UnmapsLast};
+ghost use Rattle.script_run.specs.InsideRunning.{MayRunOf, RanOf, RanOne};
 ghost use Rattle.script_run.specs.Replies.{reply_text, is_fault_reply};
 ghost use Rattle.script_run.specs.Tables.{table_of};
 ghost use Rattle.script_run.specs.Tellings.{EndsTold};
@@ -264,47 +263,6 @@ fn either(one: bool, other: bool) -> bool
     one || other
 }
 
-/// Whether a region wasn't unmapped because a write failed.
-fn is_failed(error: &UnmapError) -> bool
-    ensures { result ≡ is_fault_reply (unmap_reply error.now) }
-{
-    match error {
-        UnmapError::Unmapped => false,
-        UnmapError::Fault(_) => true,
-    }
-}
-
-/// Unmaps a region at the end, and tells whether a write failed.
-fn unmap_region<S: Store, J: Journal>(pager: &mut SerialPager<S, J>, region: u16) -> bool
-    requires region { region < length pager.old.shapes }
-    requires few { pager.old.spent + MOST_STRIPES ≤ 2 ^ 44 }
-    ensures unmapped { UnmapsOne J.has_noted region result pager.old pager.new }
-    ensures spent { pager.new.spent ≡ pager.old.spent + MOST_STRIPES }
-    ensures journals { journals_made J.made_with pager.new ≡ journals_made J.made_with pager.old }
-{
-    stripes_agree();
-    match pager.unmap(region) {
-        Ok(()) => false,
-        Err(error) => is_failed(&error),
-    }
-}
-
-/// Unmaps each of so many regions, in order of number, and tells whether a write failed. One that failed ends the unmapping of
-/// its region alone.
-fn unmap_regions<S: Store, J: Journal>(pager: &mut SerialPager<S, J>, count: u16) -> bool
-    requires regions { count ≡ length pager.old.shapes }
-    requires few { pager.old.spent + MOST_STRIPES * count ≤ 2 ^ 44 }
-    ensures unmapped { UnmapsLast J.has_noted count result pager.old pager.new }
-    ensures journals { journals_made J.made_with pager.new ≡ journals_made J.made_with pager.old }
-{
-    let mut failed = false;
-    for region in 0..count {
-        let fault = unmap_region(pager, region);
-        failed = either(failed, fault);
-    }
-    failed
-}
-
 /// Runs the scripts one after another over these lanes, for whatever they hold at first, and unmaps every region at the end, in
 /// order of number. The settings' layout says how pages are spread; `table` is the table of the workload's regions. Each entry of a
 /// stripe's history is noted in the stripe's journal, by owner 0.
@@ -355,7 +313,8 @@ pub fn serial<S: Store, J: Journal>(
         workload,
         &table,
     );
-    let failed = unmap_regions(&mut pager, table.count());
+    stripes_agree();
+    let failed = pager.unmap_all().is_err();
     let (lanes, noted) = pager.into_parts();
     put_journals(journals, noted);
     let faulted = either(replies.faulted, failed);
