@@ -7,3 +7,5 @@ pub mod Found
 pub mod WholeTrips
 pub mod Helping
 pub mod Trying
+pub mod Walking
+pub mod Unmapping

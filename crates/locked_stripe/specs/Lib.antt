@@ -1,3 +1,4 @@
+pub mod Crossing
 pub mod Answers
 pub mod Calls
 pub mod Holds
@@ -6,7 +7,9 @@ pub mod InsideHolds
 pub mod InsideLaws
 pub mod InsideLooks
 pub mod InsideTrips
+pub mod InsideWalks
 pub mod Serves
 pub mod Terms
 pub mod TripLaws
+pub mod Walks
 pub mod WholeTrips

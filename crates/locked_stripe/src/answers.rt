@@ -64,3 +64,47 @@ pub(crate) enum Glance {
     /// The page has to be served. The number of its last failed read.
     Waits(u64),
 }
+
+/// Why a look of a flush began no write.
+#[derive(Clone, Copy, Debug, PartialEq, Eq)]
+pub(crate) enum FlushRest {
+    /// No dirty page is left.
+    Clean,
+    /// The next dirty page's lane is out.
+    Away,
+}
+
+/// What a turn of a flush did.
+#[derive(Clone, Copy, Debug, PartialEq, Eq)]
+pub(crate) enum FlushTurn {
+    /// No dirty page was left.
+    Done,
+    /// It wrote the next dirty page, or waited for its lane. The page that it wrote last in all.
+    Went(Option<Key>),
+    /// The page couldn't be written. The lane's count of faults then.
+    Failed(Key, u64),
+}
+
+/// What a hold of an unmapping did, where it began no write.
+#[derive(Clone, Copy, Debug, PartialEq, Eq)]
+pub(crate) enum UnmapStep {
+    /// The region was unmapped before.
+    Gone,
+    /// Nothing of the region was left, and it is unmapped now.
+    Done,
+    /// It made one entry, or waits for the region's lane.
+    Went,
+}
+
+/// What a turn of an unmapping did.
+#[derive(Clone, Copy, Debug, PartialEq, Eq)]
+pub(crate) enum UnmapTurn {
+    /// The region was unmapped before.
+    Gone,
+    /// The region is unmapped now.
+    Done,
+    /// There is more to do.
+    Went,
+    /// The page couldn't be written. The lane's count of faults then.
+    Failed(Key, u64),
+}

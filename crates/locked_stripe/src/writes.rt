@@ -1,6 +1,7 @@
 //! The holds that make room: the first one, and the end of a write.
-ghost use Rattle.std.specs.Prelude.{◌≡◌, ◌<◌, length, IfOk, IfErr};
+ghost use Rattle.std.specs.Prelude.{◌≡◌, ◌<◌, ◌≤◌, length, IfOk, IfErr, OnOk};
 ghost use Rattle.page_base.specs.Lanes.{Rose};
+ghost use Rattle.page_base.specs.declared.limits.TheConstants.{MOST_PAGE_SIZE};
 ghost use Rattle.page_model.specs.declared.entry.Entry.TheVariants as entry;
 ghost use Rattle.page_model.specs.Trips.{IsOpenWrite, WithPage, OtherPages};
 ghost use Rattle.turn_lock.specs.Seen.{IsPassOf};
@@ -10,6 +11,7 @@ ghost use Rattle.locked_stripe.specs.Terms.{locked_setup};
 
 use crate::answers::Back;
 use crate::stripe_box::StripeBox;
+use crate::trips::write_page;
 use page_model::events::{picks_know, readers_agree};
 use page_model::laws::trips_stay_open;
 use page_model::{Cause, Journal, Note};
@@ -124,4 +126,33 @@ pub(crate) fn wrote_badly<S: Store, J: Journal, R: Wait>(
     inner.journal.note(owner, &note);
     held.give(kept, &note);
     n
+}
+
+/// The rest of a write that began: the store's part with no lock held, and the hold that ends it. A failed write answers the
+/// lane's count of faults.
+pub(crate) fn end_write<S: Store, J: Journal, R: Wait>(
+    rt: &R,
+    lock: &TurnLock<StripeBox<S, J>>,
+    pass: &mut Pass<StripeBox<S, J>>,
+    trip: Trip<S>,
+    bytes: &[u8],
+) -> Result<(), u64>
+    requires own { IsPassOf lock.now pass.old }
+    requires left { pass.old.holds < lock.now.holds }
+    requires size { length bytes.now ≡ (locked_setup lock.now).page_size }
+    requires small { length bytes.now ≤ MOST_PAGE_SIZE }
+    requires open_write { IsOpenWrite (locked_setup lock.now) pass.old.seen pass.old.number trip.start }
+    requires taken { TookBytes (locked_setup lock.now) pass.old.seen trip.start.key bytes.now }
+    requires lane { LaneOut (locked_setup lock.now) trip }
+    ensures ok { OnOk result (Makes pass.old pass.new (entry.Written trip.start.key trip.start.at bytes.now)) }
+    ensures err { IfErr result (λ n. Makes pass.old pass.new (entry.WriteFailed trip.start.key n)) }
+{
+    let mut trip = trip;
+    match write_page(&mut trip, bytes) {
+        Ok(()) => {
+            wrote(rt, lock, pass, trip, bytes);
+            Ok(())
+        }
+        Err(_) => Err(wrote_badly(rt, lock, pass, trip)),
+    }
 }

@@ -1,3 +1,4 @@
+pub mod Crossing
 pub mod Answers
 pub mod Configs
 pub mod InsideReadFaults

@@ -8,10 +8,12 @@ use Rattle.histories.specs.Histories.{History}
 use Rattle.page_base.specs.Lanes.{LaneSeen}
 use Rattle.page_base.specs.ListSeen.{ListSeen}
 use Rattle.page_model.specs.declared.entry.Entry.{Entry}
+use Rattle.page_model.specs.declared.seen.Counts.{Counts}
+use Rattle.page_model.specs.Tallies.{counts_of}
 use Rattle.turn_lock.specs.declared.closed.Closed.{Closed}
 use Rattle.turn_lock.specs.Seen.{LockSeen, PassSeen}
 use Rattle.locked_stripe.specs.declared.stripe_box.StripeBox.{StripeBox}
-use Rattle.umap_pager.specs.Ended.{StripeEnded, PagerEnded, rows_seen}
+use Rattle.umap_pager.specs.Ended.{both_counts, counts_over, StripeEnded, PagerEnded, rows_seen}
 use Rattle.umap_pager.specs.Passes.{PassesSeen}
 use Rattle.umap_pager.specs.Shared.{SharedPager}
 use Rattle.umap_pager.proofs.Locks.{has_item}
@@ -24,6 +26,11 @@ none_left (x ∷ xs) e = absurd (omega (arith, e))
 pub at_seam : {A : Type 0} (xs ys : List A) (x : A) → slice_get (xs ++ x ∷ ys) (length xs) ≡ Some x
 at_seam [] ys x = refl
 at_seam (z ∷ xs) ys x = at_seam xs ys x
+
+-- one stripe more is counted
+pub one_more : (before after : List (Closed Entry)) (closed : Closed Entry) (own counts all : Counts) → after ≡ before ++ closed ∷ [] → counts ≡ counts_over (reverse before) → own ≡ counts_of closed.history → all ≡ both_counts own counts → all ≡ counts_over (reverse after)
+one_more before after closed own counts all pushed so_far its sum =
+    sum ∙ ap (λ c. both_counts c counts) its ∙ ap (both_counts (counts_of closed.history)) so_far ∙ sym (ap counts_over (ap reverse pushed ∙ reverse-append before (closed ∷ [])))
 
 map_twice : {A B C : Type 0} (f : A → B) (g : B → C) (xs : List A) → map g (map f xs) ≡ map (λ x. g (f x)) xs
 map_twice f g [] = refl

@@ -2,14 +2,15 @@
 use Rattle.std.proofs.Common.{◌≡◌, ℕ, ◌+◌, ◌<◌, ◌≤◌, ◌==◌, true, false, nat_lt, zero, suc, List, [], ◌∷◌, ◌++◌, length, take, drop, length-take, length-append, length-drop, slice_set, Option, Some, None, refl, sym, subst, ap, ◌∙◌, arith}
 use Rattle.std.specs.List.{slice_get}
 use Rattle.std.proofs.lemmas.Bool.{and_from, eq-eqb, lt-ltb}
+use Rattle.std.proofs.lemmas.List.{length-map}
 use Rattle.std.proofs.lemmas.Option.{slice_get_within}
 use Rattle.page_base.specs.declared.keys.Key.{Key}
 use Rattle.page_base.specs.declared.keys.RegionShape.{RegionShape}
 use Rattle.page_base.specs.Pages.{stripe_of}
 use Rattle.page_model.specs.declared.entry.Entry.{Entry}
 use Rattle.page_model.specs.Events.{InPage}
-use Rattle.page_model.specs.Setups.{Setup, is_page_of, may_write, is_writable}
-use Rattle.region_table.specs.Regions.{shapes_of}
+use Rattle.page_model.specs.Setups.{Setup, is_page_of, may_write, is_writable, regions}
+use Rattle.region_table.specs.Regions.{shape_of, shapes_of}
 use Rattle.turn_lock.specs.Seen.{LockSeen, PassSeen}
 use Rattle.locked_stripe.specs.declared.stripe_box.StripeBox.{StripeBox}
 use Rattle.locked_stripe.specs.Terms.{locked_setup}
@@ -73,3 +74,7 @@ module _ {S J : Type 0} where
 
   pub stripe_writable : (pager : SharedPager S J) (shapes : List RegionShape) (s r : ℕ) (lock : LockSeen (StripeBox S J)) → GoesTogether pager shapes → slice_get pager.locks s ≡ Some lock → region_writable pager r ≡ true → is_writable (locked_setup lock) r ≡ true
   stripe_writable pager shapes s r lock all at may = ap (λ (ss : List RegionShape). may_write (slice_get ss r)) (all.each s lock at).shapes ∙ may
+
+  -- a stripe has the regions of the table
+  pub stripe_regions : (pager : SharedPager S J) (shapes : List RegionShape) (s : ℕ) (lock : LockSeen (StripeBox S J)) → GoesTogether pager shapes → slice_get pager.locks s ≡ Some lock → regions (locked_setup lock) ≡ length pager.table.regions
+  stripe_regions pager shapes s lock all at = ap length (all.each s lock at).shapes ∙ length-map pager.table.regions (shape_of pager.table.page_size)

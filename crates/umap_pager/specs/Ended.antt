@@ -1,12 +1,14 @@
 -- What is left of a pager that is closed.
-use Rattle.std.specs.Prelude.{ℕ, ◌*◌, ◌≤◌, ◌≡◌, List, length, map, slice_get, Some}
+use Rattle.std.specs.Prelude.{ℕ, ◌+◌, ◌*◌, ◌-◌, ◌^◌, ◌≤◌, ◌≡◌, min, List, [], ◌∷◌, length, map, slice_get, Some}
 use Rattle.histories.specs.Histories.{History, calls_of}
 use Rattle.page_base.specs.Lanes.{LaneSeen}
 use Rattle.page_base.specs.ListSeen.{ListSeen}
 use Rattle.page_model.specs.declared.entry.Entry.{Entry}
+use Rattle.page_model.specs.declared.seen.Counts.{Counts}
 use Rattle.page_model.specs.Legal.{IsLegal}
 use Rattle.page_model.specs.Setups.{Setup}
 use Rattle.page_model.specs.Stands.{HomeLane}
+use Rattle.page_model.specs.Tallies.{counts_of, no_counts}
 use Rattle.turn_lock.specs.declared.closed.Closed.{Closed}
 use Rattle.turn_lock.specs.Seen.{LockSeen, PassSeen, HaveTheirCalls, HaveTheirParts, MadeAtMost, AreNumbered, OwnersAreKnown}
 use Rattle.locked_stripe.specs.declared.stripe_box.StripeBox.{StripeBox}
@@ -18,6 +20,18 @@ use Rattle.umap_pager.specs.WholePasses.{HasWholeTrips}
 -- for each stripe, what is seen of its lanes, in order of region
 abbrev pub rows_seen : {S : Type 0} → (S → LaneSeen) → List (ListSeen S) → List (List LaneSeen)
 rows_seen seen stripes = map (λ row. map seen row.items) stripes
+
+-- a sum, or the last number of 64 bits where it is above that
+abbrev pub sum_or_last : ℕ → ℕ → ℕ
+sum_or_last a b = min (a + b) (2 ^ 64 - 1)
+
+abbrev pub both_counts : Counts → Counts → Counts
+both_counts a b = record { fills = sum_or_last a.fills b.fills; writes = sum_or_last a.writes b.writes; evictions = sum_or_last a.evictions b.evictions; faults = sum_or_last a.faults b.faults }
+
+-- how many entries of each kind these histories have, added up
+abbrev pub counts_over : List (Closed Entry) → Counts
+counts_over [] = no_counts
+counts_over (c ∷ cs) = both_counts (counts_of c.history) (counts_over cs)
 
 -- the lanes of all regions, as a stripe has them at home after this history
 pub record AreAtHome (u : Setup) (h : History Entry) (row : List LaneSeen) : Type 0 where

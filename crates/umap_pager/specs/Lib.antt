@@ -1,3 +1,4 @@
+pub mod Crossing
 pub mod Ended
 pub mod InsideEnded
 pub mod InsideLaws
@@ -8,5 +9,6 @@ pub mod Passes
 pub mod Ranges
 pub mod Shared
 pub mod TripLaws
+pub mod Walks
 pub mod Went
 pub mod WholePasses

@@ -17,7 +17,9 @@ mod pager;
 mod passes;
 mod pieces;
 mod ranges;
+mod room;
 mod splitting;
+mod walks;
 
 pub use closing::PagerEnd;
 pub use config::{OpenFault, PagerConfig, SplitFault};

@@ -17,11 +17,13 @@ use crate::closing::{PagerEnd, end_all};
 use crate::config::{OpenFault, PagerConfig};
 use crate::pager::Pager;
 use crate::passes::Passes;
+use crate::room::EndRoom;
 use locked_stripe::{NotedStripe, StripeBox};
 use page_base::{List, OutOfMemory, RegionShape};
 use page_model::Journal;
 use region_table::RegionTable;
 use std::alloc::Global;
+use std::sync::Mutex;
 use store_trait::{LaneSet, Store};
 use stripe_core::{NewStripe, Stripe, StripeConfig};
 use turn_lock::{NewFault, Pass, TurnLock};
@@ -141,6 +143,11 @@ impl<S: Store, J: Journal> Pager<S, J> {
             passes.destroy_empty();
             return Err(OpenFault::OutOfMemory { lanes, journals });
         };
+        let Ok(room) = EndRoom::new(alloc) else {
+            passes.destroy_empty();
+            locks.destroy_empty();
+            return Err(OpenFault::OutOfMemory { lanes, journals });
+        };
         let mut own_config = StripeConfig {
             layout: config.layout,
             number: 0,
@@ -163,25 +170,27 @@ impl<S: Store, J: Journal> Pager<S, J> {
                     passes.push_reserved(pass);
                 }
                 Err(StripeBack { lanes, journal }) => {
+                    room.free();
                     home.push_reserved(lanes);
                     noted.push_reserved(journal);
                     let PagerEnd {
                         lanes,
                         journals,
                         stripes: _,
+                        counts: _,
                     } = end_all(locks, passes, home, noted, ends);
                     return Err(OpenFault::OutOfMemory { lanes, journals });
                 }
             }
             own_config.number += 1;
         }
+        home.destroy_empty();
+        noted.destroy_empty();
         let pager = Pager {
             config: own_config,
             table,
             locks,
-            home,
-            noted,
-            ends,
+            room: Mutex::new(room),
         };
         Ok((pager, Passes { passes, scratch }))
     }

@@ -6,15 +6,16 @@ ghost use Rattle.umap_pager.specs.Passes.{FitTo, IsSpentAt, ServesIn, MakesRoomI
 ghost use Rattle.umap_pager.specs.Shared.{page_stripe};
 
 use crate::passes::Passes;
+use crate::room::EndRoom;
 use locked_stripe::{Back, Served, StripeBox, make_room_in, serve_in};
-use page_base::{Key, Layout, List};
-use page_model::{Entry, Journal};
+use page_base::{Key, Layout};
+use page_model::Journal;
 use region_table::RegionTable;
 use std::marker::Model;
-use std::sync::Wait;
+use std::sync::{Mutex, Wait};
 use store_trait::Store;
 use stripe_core::StripeConfig;
-use turn_lock::{Closed, PassSpent, TurnLock};
+use turn_lock::{PassSpent, TurnLock};
 
 /// The stripes of a buffer, each under its lock, with the lanes of all regions of a table. Threads share it.
 pub struct Pager<S: Store, J: Journal> {
@@ -22,14 +23,12 @@ pub struct Pager<S: Store, J: Journal> {
     pub(crate) config: StripeConfig,
     pub(crate) table: RegionTable,
     pub(crate) locks: Vec<TurnLock<StripeBox<S, J>>>,
-    /// Room for the lanes, the journals and the histories when they are handed back.
-    pub(crate) home: Vec<List<S>>,
-    pub(crate) noted: Vec<J>,
-    pub(crate) ends: Vec<Closed<Entry>>,
+    /// Where the lanes, the journals and the histories are handed back. No thread reads it, so sharing the pager asks nothing of
+    /// lanes and journals but that they may be sent.
+    pub(crate) room: Mutex<EndRoom<S, J>>,
 }
 
 impl<S: Store, J: Journal> Model for Pager<S, J> {
-    ghost use Rattle.std.specs.Prelude.{◌≡◌, ◌≤◌, [], length, vec_capacity};
     ghost use Rattle.umap_pager.specs.Shared.{SharedPager};
     ghost use Rattle.umap_pager.specs.InsideParts.{GoesTogether};
 
@@ -37,7 +36,7 @@ impl<S: Store, J: Journal> Model for Pager<S, J> {
 
     ghost view = { λ p. record { layout = p.config.layout; table = p.table; locks = p.locks.items } };
 
-    ghost invariant = { λ p. GoesTogether (record { layout = p.config.layout; table = p.table; locks = p.locks.items }) p.config.shapes.items × (p.home.items ≡ []) × (p.noted.items ≡ []) × (p.ends.items ≡ []) × (length p.locks.items ≤ vec_capacity p.home) × (length p.locks.items ≤ vec_capacity p.noted) × (length p.locks.items ≤ vec_capacity p.ends) };
+    ghost invariant = { λ p. GoesTogether (record { layout = p.config.layout; table = p.table; locks = p.locks.items }) p.config.shapes.items };
 }
 
 impl<S: Store, J: Journal> Pager<S, J> {
@@ -53,6 +52,14 @@ impl<S: Store, J: Journal> Pager<S, J> {
         ensures { result.now ≡ self.now.table }
     {
         &self.table
+    }
+
+    /// The number of stripes.
+    pub fn stripes(&self) -> u32
+        ensures count { result ≡ self.now.layout.stripes }
+        ensures locks { length self.now.locks ≡ result }
+    {
+        self.config.layout.stripes()
     }
 
     /// One step of service in a stripe, in at most two holds of it.

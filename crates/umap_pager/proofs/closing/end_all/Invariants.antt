@@ -1,5 +1,6 @@
-use Rattle.std.proofs.Common.{◌+◌, ◌≤◌}
-use Rattle.std.specs.Prelude.{vec_len, vec_capacity}
+use Rattle.std.proofs.Common.{◌≡◌, ◌+◌, ◌≤◌}
+use Rattle.std.specs.Prelude.{reverse, vec_len, vec_capacity}
+use Rattle.umap_pager.specs.Ended.{counts_over}
 use Rattle.umap_pager.proofs.Ending.{Ending}
 use Rattle.umap_pager.proofs.closing.end_all.Given as goal
 
@@ -12,4 +13,5 @@ invariant-stripes g l = record {
   lanes_room : vec_len l.lanes + vec_len l.locks ≤ vec_capacity l.lanes;
   journals_room : vec_len l.journals + vec_len l.locks ≤ vec_capacity l.journals;
   stripes_room : vec_len l.stripes + vec_len l.locks ≤ vec_capacity l.stripes;
+  counts : l.counts ≡ counts_over (reverse l.stripes.items);
 }

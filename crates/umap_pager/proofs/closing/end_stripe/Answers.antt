@@ -22,8 +22,8 @@ into_lanes-requires g c =
     let home : AllHome c.close-kept.result.1.history = closed_home c.whole_trips.ensures c.close-kept.result.1.history c.close-kept.result.1.ended mine its e.calls e.owners in
     record { home = all_home c.readers_agree.ensures c.close-kept.result.1.history c.into_parts-stripe.result.0 stands home }
 
-pub returns : goal.returns
-returns g c =
+pub returns-clause-ended : goal.returns-clause-ended
+returns-clause-ended g c =
     let e = c.close-kept.ensures in
     let stripe = c.into_parts-stripe.ensures.stripe in
     let stands = subst (λ k. StandsFor c.close-kept.result.1.history k) (sym stripe) e.stands.0 in
@@ -45,3 +45,9 @@ returns g c =
       owners = e.owners;
       few = e.few;
     }
+
+pub returns-clause-counts : goal.returns-clause-counts
+returns-clause-counts g c =
+    let e = c.close-kept.ensures in
+    let stands = subst (λ k. StandsFor c.close-kept.result.1.history k) (sym c.into_parts-stripe.ensures.stripe) e.stands.0 in
+    c.counts-tally.ensures.exact ∙ stands.counts

@@ -20,7 +20,7 @@ use Rattle.umap_pager.proofs.pager.Pager.load_pieces.Goals as goal
 
 pub loop-piece-init : goal.loop-piece-init
 loop-piece-init g c =
-    let all = subst (λ v. GoesTogether v c.self.inside.config.shapes.items) c.self.view_is c.self.invariant.0 in
+    let all = subst (λ v. GoesTogether v c.self.inside.config.shapes.items) c.self.view_is c.self.invariant in
     record {
       fit = c.requires.fit;
       within = omega arith;
@@ -39,7 +39,7 @@ slice_bounds-load_piece-end g c =
 
 pub load_piece-requires-clause-part : goal.load_piece-requires-clause-part
 load_piece-requires-clause-part g c =
-    let all = subst (λ v. GoesTogether v c.self.inside.config.shapes.items) c.self.view_is c.self.invariant.0 in
+    let all = subst (λ v. GoesTogether v c.self.inside.config.shapes.items) c.self.view_is c.self.invariant in
     let len = length c.args.buf.now in
     let done = c.loop-piece.done in
     let i = c.loop-piece.invariant in

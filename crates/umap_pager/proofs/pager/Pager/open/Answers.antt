@@ -93,15 +93,7 @@ invariant_of-pager g c =
     let n = lengths g.S.Store.seen c.args.config.now c.args.table rows c.args.journals.items c.requires.can c.making.own_config c.making.locks.items c.making.passes.items c.making.home.items c.making.noted.items c.making.invariant.opening in
     let empty : c.making.home.items ≡ [] = none_left c.making.home.items (omega (arith, c.in_default-pop.ensures.cases, c.making.home.ok.0)) in
     let noted : c.making.noted.items ≡ [] = none_left c.making.noted.items (omega (arith, n.0, n.1, ap length empty)) in
-    let popped : c.pop.new.self.items ≡ [] = none_left c.pop.new.self.items (omega (arith, c.in_default-pop.ensures.cases, c.pop.new.self.ok.0)) in (
-      together g.S.Store.seen c.args.config.now c.args.table rows c.args.journals.items c.requires.can c.making.own_config c.making.locks.items c.making.passes.items c.making.home.items c.making.noted.items c.making.invariant.opening empty noted c.in-Ok.ensures.groups c.in-Ok.ensures.whole,
-      popped,
-      noted,
-      c.in-Ok-with_capacity.ensures.items,
-      omega (arith, i.home_room, c.in_default-pop.ensures.capacity, c.making.locks.ok.0),
-      omega (arith, i.noted_room, c.making.locks.ok.0),
-      omega (arith, n.0, c.requires.can.stripes, length-map c.args.lanes.stripes.items (λ (row : ListSeen _). map g.S.Store.seen row.items), c.len-count.ensures, c.in-Ok-with_capacity.ensures.capacity),
-    )
+    together g.S.Store.seen c.args.config.now c.args.table rows c.args.journals.items c.requires.can c.making.own_config c.making.locks.items c.making.passes.items c.making.home.items c.making.noted.items c.making.invariant.opening empty noted c.in-Ok.ensures.groups c.in-Ok.ensures.whole
 
 pub returns-clause-opened : goal.returns-clause-opened
 returns-clause-opened g c =

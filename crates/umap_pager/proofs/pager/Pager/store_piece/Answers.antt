@@ -12,7 +12,7 @@ store_in-requires-clause-in_page g c =
     let inside : at < length c.self.inside.locks.items = omega (arith, c.stripe_of-at.ensures.below, ap (λ v. length v.locks) c.self.view_is) in
     let many : length c.p.inside.passes.items ≡ length c.self.inside.locks.items = ap (λ v. length v.passes) c.p.view_is ∙ c.requires.fit.as_many ∙ sym (ap (λ v. length v.locks) c.self.view_is) in
     let lock = subst (λ ls. slice_get ls at ≡ Some c.index.result.now) (ap (λ v. v.locks) c.self.view_is) (slice_get_read c.self.inside.locks.items (length c.self.inside.locks.items) at c.index.result.now refl inside c.index.ensures) in
-    let all = subst (λ v. GoesTogether v c.self.inside.config.shapes.items) c.self.view_is c.self.invariant.0 in
+    let all = subst (λ v. GoesTogether v c.self.inside.config.shapes.items) c.self.view_is c.self.invariant in
     let known = c.stripe_of-at.ensures.known in
     in_stripe_page c.args.self.now c.self.inside.config.shapes.items c.args.key c.args.place (length c.args.bytes.now) known.0 c.index.result.now all c.requires.part known.1 (subst (λ n. slice_get c.args.self.now.locks n ≡ Some c.index.result.now) c.stripe_of-at.ensures.stripe lock)
 
@@ -22,7 +22,7 @@ store_in-requires-clause-writable g c =
     let inside : at < length c.self.inside.locks.items = omega (arith, c.stripe_of-at.ensures.below, ap (λ v. length v.locks) c.self.view_is) in
     let many : length c.p.inside.passes.items ≡ length c.self.inside.locks.items = ap (λ v. length v.passes) c.p.view_is ∙ c.requires.fit.as_many ∙ sym (ap (λ v. length v.locks) c.self.view_is) in
     let lock = subst (λ ls. slice_get ls at ≡ Some c.index.result.now) (ap (λ v. v.locks) c.self.view_is) (slice_get_read c.self.inside.locks.items (length c.self.inside.locks.items) at c.index.result.now refl inside c.index.ensures) in
-    let all = subst (λ v. GoesTogether v c.self.inside.config.shapes.items) c.self.view_is c.self.invariant.0 in
+    let all = subst (λ v. GoesTogether v c.self.inside.config.shapes.items) c.self.view_is c.self.invariant in
     stripe_writable c.args.self.now c.self.inside.config.shapes.items at c.args.key.region c.index.result.now all lock c.requires.writable
 
 pub returns-clause-ok : goal.returns-clause-ok

@@ -17,7 +17,7 @@ use Rattle.umap_pager.proofs.pager.Pager.store_pieces.Goals as goal
 
 pub loop-piece-init : goal.loop-piece-init
 loop-piece-init g c =
-    let all = subst (λ v. GoesTogether v c.self.inside.config.shapes.items) c.self.view_is c.self.invariant.0 in
+    let all = subst (λ v. GoesTogether v c.self.inside.config.shapes.items) c.self.view_is c.self.invariant in
     record {
       fit = c.requires.fit;
       within = omega arith;
@@ -35,7 +35,7 @@ slice_bounds-store_piece-end g c =
 
 pub store_piece-requires-clause-part : goal.store_piece-requires-clause-part
 store_piece-requires-clause-part g c =
-    let all = subst (λ v. GoesTogether v c.self.inside.config.shapes.items) c.self.view_is c.self.invariant.0 in
+    let all = subst (λ v. GoesTogether v c.self.inside.config.shapes.items) c.self.view_is c.self.invariant in
     let bytes = c.args.bytes.now in
     let len = length bytes in
     let done = c.loop-piece.done in

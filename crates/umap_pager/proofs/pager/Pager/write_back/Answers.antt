@@ -7,7 +7,7 @@ use Rattle.umap_pager.proofs.pager.Pager.write_back.Goals as goal
 
 pub returns-clause-spent : goal.returns-clause-spent
 returns-clause-spent g c =
-    let inside : c.args.stripe < length c.self.inside.locks.items = omega (arith, c.requires.stripe, c.self.invariant.0.count, ap (λ v. v.layout.stripes) c.self.view_is) in
+    let inside : c.args.stripe < length c.self.inside.locks.items = omega (arith, c.requires.stripe, c.self.invariant.count, ap (λ v. v.layout.stripes) c.self.view_is) in
     let many : length c.p.inside.passes.items ≡ length c.self.inside.locks.items = ap (λ v. length v.passes) c.p.view_is ∙ c.requires.fit.as_many ∙ sym (ap (λ v. length v.locks) c.self.view_is) in
     let lock = subst (λ ls. slice_get ls c.args.stripe ≡ Some c.index.result.now) (ap (λ v. v.locks) c.self.view_is) (slice_get_read c.self.inside.locks.items (length c.self.inside.locks.items) c.args.stripe c.index.result.now refl inside c.index.ensures) in
     let pass = subst (λ ps. slice_get ps c.args.stripe ≡ Some c.index_mut.result.now) (ap (λ v. v.passes) c.p.view_is) (slice_get_read c.p.inside.passes.items (length c.self.inside.locks.items) c.args.stripe c.index_mut.result.now (sym many) inside c.index_mut.ensures.value) in (
@@ -20,7 +20,7 @@ returns-clause-spent g c =
 
 pub returns-clause-made : goal.returns-clause-made
 returns-clause-made g c =
-    let inside : c.args.stripe < length c.self.inside.locks.items = omega (arith, c.requires.stripe, c.self.invariant.0.count, ap (λ v. v.layout.stripes) c.self.view_is) in
+    let inside : c.args.stripe < length c.self.inside.locks.items = omega (arith, c.requires.stripe, c.self.invariant.count, ap (λ v. v.layout.stripes) c.self.view_is) in
     let many : length c.p.inside.passes.items ≡ length c.self.inside.locks.items = ap (λ v. length v.passes) c.p.view_is ∙ c.requires.fit.as_many ∙ sym (ap (λ v. length v.locks) c.self.view_is) in
     let lock = subst (λ ls. slice_get ls c.args.stripe ≡ Some c.index.result.now) (ap (λ v. v.locks) c.self.view_is) (slice_get_read c.self.inside.locks.items (length c.self.inside.locks.items) c.args.stripe c.index.result.now refl inside c.index.ensures) in
     let pass = subst (λ ps. slice_get ps c.args.stripe ≡ Some c.index_mut.result.now) (ap (λ v. v.passes) c.p.view_is) (slice_get_read c.p.inside.passes.items (length c.self.inside.locks.items) c.args.stripe c.index_mut.result.now (sym many) inside c.index_mut.ensures.value) in
