@@ -1,0 +1,4 @@
+pub mod Lists
+pub mod Regions
+pub mod Results
+pub mod Walking
