@@ -7,8 +7,6 @@
 #[cfg(test)]
 mod folders;
 #[cfg(test)]
-mod lanes;
-#[cfg(test)]
 mod limits;
 #[cfg(test)]
 mod locked;

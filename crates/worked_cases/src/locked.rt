@@ -3,7 +3,8 @@ ghost use Rattle.std.specs.Prelude.{◌≡◌, ◌<◌, ◌≤◌, ◌^◌, IfOk
 ghost use Rattle.page_model.specs.Setups.{regions};
 ghost use Rattle.store_trait.specs.Memory.{memory_origin};
 
-use crate::one_stripe::{failing, memory_lane, small_config};
+use crate::one_stripe::small_config;
+use case_tools::{failing_memory_lane, memory_lane};
 use locked_stripe::{
     Access, Back, NotedStripe, Served, StripeBox, load_in, make_room_in, serve_in, store_in,
 };
@@ -170,7 +171,7 @@ fn pages_take_turns_under_the_lock(rt: HostRuntime) -> Result<(), Fail> {
 #[test]
 fn a_read_that_fails_is_told_once(rt: HostRuntime) -> Result<(), Fail> {
     let layout = Layout::new(64, 1, 1)?;
-    let lane = failing(rt.alloc(), &layout, &[1], &[])?;
+    let lane = failing_memory_lane(rt.alloc(), &layout, &[1], &[])?;
     let mut seat = seated(&rt, rt.alloc(), layout, lane, 100)?;
     let key = page(0);
     assert_eq!(rt;
@@ -185,7 +186,7 @@ fn a_read_that_fails_is_told_once(rt: HostRuntime) -> Result<(), Fail> {
 #[test]
 fn a_write_that_fails_leaves_the_page(rt: HostRuntime) -> Result<(), Fail> {
     let layout = Layout::new(64, 1, 1)?;
-    let lane = failing(rt.alloc(), &layout, &[], &[1, 2])?;
+    let lane = failing_memory_lane(rt.alloc(), &layout, &[], &[1, 2])?;
     let mut seat = seated(&rt, rt.alloc(), layout, lane, 100)?;
     let key = page(0);
     assert_eq!(rt; seat.store(&rt, 0, 9), Ok(()));

@@ -5,15 +5,15 @@ ghost use Rattle.serial_pager.specs.Rests.{IsAtRest};
 ghost use Rattle.stripe_core.specs.Configs.{setup_of, CanMake};
 ghost use Rattle.store_trait.specs.Memory.{memory_origin};
 
-use crate::lanes::failing_lane;
-use page_base::{Bytes, Layout, List, RegionShape};
+use case_tools::{failing_memory_lane, memory_lane};
+use page_base::{Layout, List, RegionShape};
 use page_model::NoJournal;
 use serial_pager::{Key, PageFault, SerialStripe};
 use std::alloc::Global;
 use std::marker::Model;
 use std::process::Abort;
 use std::test::Fail;
-use store_trait::{FailLane, MemLane, MemStore, Store};
+use store_trait::Store;
 use stripe_core::{NewStripe, Stripe, StripeConfig};
 
 /// How an unmapping went, whether the region closes then, and whether it is unmapped.
@@ -98,22 +98,6 @@ impl<S: Store + Drop> Small<S> {
     }
 }
 
-/// The lane of a store in memory whose bytes are all 7.
-pub(crate) fn memory_lane(alloc: Global, layout: &Layout) -> Result<MemLane, Fail>
-    requires page_size { layout.now.page_size ≡ 64 }
-    requires stripes { layout.now.stripes ≡ 1 }
-    ensures { IfOk result (λ lane. (⟦<MemLane as Store>⟧.seen lane).origin ≡ memory_origin 0 2 64 1 0) }
-{
-    let bytes = vec![in alloc; 7u8; 128]?;
-    let Ok(lanes) = MemStore::new(Bytes::from_vec(bytes), 64).split(layout, 0) else {
-        return Err(Fail::new("no memory"));
-    };
-    let Some(lane) = lanes.into_vec().pop() else {
-        return Err(Fail::new("no lane"));
-    };
-    Ok(lane)
-}
-
 fn made<S: Store + Drop>(
     alloc: Global,
     config: &StripeConfig,
@@ -168,21 +152,6 @@ fn stripe_over<S: Store + Drop>(alloc: Global, layout: Layout, lane: S) -> Resul
     Ok(Small { stripe })
 }
 
-/// A lane over memory whose reads and writes of these numbers fail.
-pub(crate) fn failing(
-    alloc: Global,
-    layout: &Layout,
-    reads: &[u64],
-    writes: &[u64],
-) -> Result<FailLane<MemLane>, Fail>
-    requires page_size { layout.now.page_size ≡ 64 }
-    requires stripes { layout.now.stripes ≡ 1 }
-    ensures { IfOk result (λ lane. (⟦<FailLane<MemLane> as Store>⟧.seen lane).origin ≡ memory_origin 0 2 64 1 0) }
-{
-    let lane = memory_lane(alloc, layout)?;
-    Ok(failing_lane(alloc, lane, reads, writes)?)
-}
-
 #[test]
 fn pages_take_turns_in_one_frame(rt: HostRuntime) -> Result<(), Fail> {
     let layout = Layout::new(64, 1, 1)?;
@@ -199,7 +168,11 @@ fn pages_take_turns_in_one_frame(rt: HostRuntime) -> Result<(), Fail> {
 #[test]
 fn the_first_read_fails(rt: HostRuntime) -> Result<(), Fail> {
     let layout = Layout::new(64, 1, 1)?;
-    let mut stripe = stripe_over(rt.alloc(), layout, failing(rt.alloc(), &layout, &[1], &[])?)?;
+    let mut stripe = stripe_over(
+        rt.alloc(),
+        layout,
+        failing_memory_lane(rt.alloc(), &layout, &[1], &[])?,
+    )?;
     let key = Key { region: 0, page: 0 };
     assert_eq!(rt; stripe.load(0), Err(PageFault { key, faults: 1 }));
     assert_eq!(rt; stripe.load(0), Ok(7));
@@ -213,7 +186,7 @@ fn every_write_fails(rt: HostRuntime) -> Result<(), Fail> {
     let mut stripe = stripe_over(
         rt.alloc(),
         layout,
-        failing(rt.alloc(), &layout, &[], &[1, 2])?,
+        failing_memory_lane(rt.alloc(), &layout, &[], &[1, 2])?,
     )?;
     let key = Key { region: 0, page: 0 };
     assert_eq!(rt; stripe.store(0, 9), Ok(()));
@@ -227,7 +200,11 @@ fn every_write_fails(rt: HostRuntime) -> Result<(), Fail> {
 #[test]
 fn a_flush_writes_each_dirty_page_and_leaves_it(rt: HostRuntime) -> Result<(), Fail> {
     let layout = Layout::new(64, 1, 2)?;
-    let mut stripe = stripe_over(rt.alloc(), layout, failing(rt.alloc(), &layout, &[], &[2])?)?;
+    let mut stripe = stripe_over(
+        rt.alloc(),
+        layout,
+        failing_memory_lane(rt.alloc(), &layout, &[], &[2])?,
+    )?;
     let key = Key { region: 0, page: 1 };
     assert_eq!(rt; stripe.store(1, 9), Ok(()));
     assert_eq!(rt; stripe.store(0, 8), Ok(()));
@@ -253,7 +230,11 @@ fn a_region_is_unmapped_once(rt: HostRuntime) -> Result<(), Fail> {
 #[test]
 fn an_unmapping_goes_on_after_a_failed_write(rt: HostRuntime) -> Result<(), Fail> {
     let layout = Layout::new(64, 1, 1)?;
-    let mut stripe = stripe_over(rt.alloc(), layout, failing(rt.alloc(), &layout, &[], &[1])?)?;
+    let mut stripe = stripe_over(
+        rt.alloc(),
+        layout,
+        failing_memory_lane(rt.alloc(), &layout, &[], &[1])?,
+    )?;
     let key = Key { region: 0, page: 0 };
     assert_eq!(rt; stripe.store(0, 9), Ok(()));
     let stays = (Err(PageFault { key, faults: 1 }), true, false);

@@ -9,9 +9,9 @@ ghost use Rattle.script_run.specs.Ends.{origins_in};
 ghost use Rattle.script_run.specs.Fits.{AreInRange, has_whole_pages};
 ghost use Rattle.script_run.specs.Tables.{table_of};
 
-use crate::lanes::failing_lane;
+use case_tools::{NO_PAGE, Row, Rows, failing_lane};
 use page_base::{Layout, List, OutOfMemory};
-use page_model::{Journal, NoJournal, Note};
+use page_model::{Journal, NoJournal};
 use region_table::RegionTable;
 use script_run::laws::regions_are_maps;
 use script_run::{
@@ -482,77 +482,27 @@ fn the_text_is_the_same_under_all_settings(rt: HostRuntime) -> Result<(), Fail> 
     Ok(())
 }
 
-/// A journal that keeps of each entry what it is and of which page. An entry of another owner than 0 has no page, nor has one
-/// of a region.
-#[derive(Drop)]
-struct Told {
-    entries: Vec<(&'static str, u32)>,
-}
-
-impl Journal for Told {
-    type Made = ();
-
-    // it is read by hand, so it may stand for any history
-    ghost has_noted = { λ j h. Unit {0} };
-
-    ghost made_with = { λ j. record {} };
-
-    fn note(&mut self, owner: u32, note: &Note<'_>) {
-        let page = match note.key() {
-            Some(key) if owner == 0 => key.page,
-            _ => u32::MAX,
-        };
-        let _ = self.entries.push((word(note), page));
-    }
-}
-
-fn word(note: &Note<'_>) -> &'static str {
-    match note {
-        Note::Load { .. } => "load",
-        Note::Save { .. } => "save",
-        Note::Raised { .. } => "raised",
-        Note::StartRead { .. } => "start read",
-        Note::Filled { .. } => "filled",
-        Note::Opened { .. } => "opened",
-        Note::Dropped { .. } => "dropped",
-        Note::ReadFailed { .. } => "read failed",
-        Note::WriteFailed { .. } => "write failed",
-        Note::StartWrite { .. } => "start write",
-        Note::Evicted { .. } => "evicted",
-        Note::Written { .. } => "written",
-        Note::Hint { .. } => "hint",
-        Note::Closing { .. } => "closing",
-        Note::Unmapped { .. } => "unmapped",
-    }
-}
-
 /// What the only stripe makes of a text, over lanes that fail so.
 fn entries_over(
     alloc: Global,
     layout: Layout,
     text: &str,
     plan: &[Failing<'_>],
-) -> Result<Vec<(&'static str, u32)>, Fail> {
+) -> Result<Rows, Fail> {
     if layout.stripes() != 1 {
         return Err(Fail::new("several stripes"));
     }
     let mut journals = Vec::new(alloc);
-    journals.push(Told {
-        entries: Vec::new(alloc),
-    })?;
+    if journals.push(Rows::new(alloc)).is_err() {
+        return Err(Fail::new("no memory"));
+    }
     let mut journals = List::from_vec(journals);
     failing_run(alloc, layout, text, plan, &mut journals)?;
-    let journal = journals.into_vec().pop().ok_or("no journal")?;
-    Ok(journal.entries)
+    Ok(journals.into_vec().pop().ok_or("no journal")?)
 }
 
 /// The same, over one frame and lanes of which those of the first region fail at reads and writes of these numbers.
-fn entries_of(
-    alloc: Global,
-    text: &str,
-    reads: &[u64],
-    writes: &[u64],
-) -> Result<Vec<(&'static str, u32)>, Fail> {
+fn entries_of(alloc: Global, text: &str, reads: &[u64], writes: &[u64]) -> Result<Rows, Fail> {
     let layout = Layout::new(64, 1, 1)?;
     let plan = [Failing {
         stripe: 0,
@@ -567,26 +517,26 @@ fn entries_of(
 fn a_journal_tells_how_two_pages_take_turns_in_one_frame(rt: HostRuntime) -> Result<(), Fail> {
     let text = "map A memory 128 rw\nscript s\nstore A 0 aa\nload A 64 1\nload A 0 1\n";
     let wanted = [
-        ("raised", 0),
-        ("start read", 0),
-        ("filled", 0),
-        ("save", 0),
-        ("raised", 1),
-        ("start write", 0),
-        ("written", 0),
-        ("evicted", 0),
-        ("start read", 1),
-        ("filled", 1),
-        ("load", 1),
-        ("raised", 0),
-        ("evicted", 1),
-        ("start read", 0),
-        ("filled", 0),
-        ("load", 0),
+        Row::of("raised", 0),
+        Row::of("start read", 0),
+        Row::of("filled", 0),
+        Row::of("save", 0).last(0xaa),
+        Row::of("raised", 1),
+        Row::of("start write", 0),
+        Row::of("written", 0).number(5),
+        Row::of("evicted", 0),
+        Row::of("start read", 1),
+        Row::of("filled", 1),
+        Row::of("load", 1),
+        Row::of("raised", 0),
+        Row::of("evicted", 1),
+        Row::of("start read", 0),
+        Row::of("filled", 0),
+        Row::of("load", 0).last(0xaa),
         // the end unmaps the region
-        ("closing", u32::MAX),
-        ("evicted", 0),
-        ("unmapped", u32::MAX),
+        Row::of("closing", NO_PAGE),
+        Row::of("evicted", 0),
+        Row::of("unmapped", NO_PAGE),
     ];
     assert_eq!(rt;
         entries_of(rt.alloc(), text, &[], &[])?.as_slice(),
@@ -601,24 +551,24 @@ fn a_journal_tells_the_failures_of_fault_lines_and_of_the_last_unmapping(
 ) -> Result<(), Fail> {
     let text = "map A memory 128 rw\nscript s\nload A 0 1\nstore A 0 aa\nload A 62 4\nload A 0 1\n";
     let wanted = [
-        ("raised", 0),
-        ("start read", 0),
-        ("read failed", 0),
-        ("raised", 0),
-        ("start read", 0),
-        ("filled", 0),
-        ("save", 0),
+        Row::of("raised", 0),
+        Row::of("start read", 0),
+        Row::of("read failed", 0).number(1),
+        Row::of("raised", 0),
+        Row::of("start read", 0),
+        Row::of("filled", 0),
+        Row::of("save", 0).last(0xaa),
         // the line loads of page 0, and ends where page 1 wants room
-        ("load", 0),
-        ("raised", 1),
-        ("start write", 0),
-        ("write failed", 0),
-        ("load", 0),
+        Row::of("load", 0).number(62),
+        Row::of("raised", 1),
+        Row::of("start write", 0),
+        Row::of("write failed", 0).number(2),
+        Row::of("load", 0).last(0xaa),
         // the end fails to unmap the region
-        ("closing", u32::MAX),
-        ("dropped", 1),
-        ("start write", 0),
-        ("write failed", 0),
+        Row::of("closing", NO_PAGE),
+        Row::of("dropped", 1),
+        Row::of("start write", 0),
+        Row::of("write failed", 0).number(3),
     ];
     assert_eq!(rt;
         entries_of(rt.alloc(), text, &[1], &[1, 2])?.as_slice(),
@@ -632,26 +582,26 @@ fn a_journal_tells_of_flushes_and_of_unmappings(rt: HostRuntime) -> Result<(), F
     let text =
         "map A memory 64 rw\nscript s\nstore A 0 aa\nflush\nflush\nstore A 1 bb\nunmap A\nload A 0 1\nunmap A\nunmap A\n";
     let wanted = [
-        ("raised", 0),
-        ("start read", 0),
-        ("filled", 0),
-        ("save", 0),
+        Row::of("raised", 0),
+        Row::of("start read", 0),
+        Row::of("filled", 0),
+        Row::of("save", 0).last(0xaa),
         // the first flush, and nothing for the second
-        ("start write", 0),
-        ("written", 0),
+        Row::of("start write", 0),
+        Row::of("written", 0).number(4),
         // the page is opened again
-        ("raised", 0),
-        ("opened", 0),
-        ("save", 0),
+        Row::of("raised", 0),
+        Row::of("opened", 0),
+        Row::of("save", 0).number(1).last(0xbb),
         // the first `unmap` fails
-        ("closing", u32::MAX),
-        ("start write", 0),
-        ("write failed", 0),
+        Row::of("closing", NO_PAGE),
+        Row::of("start write", 0),
+        Row::of("write failed", 0).number(1),
         // the second goes on, the third and the end have nothing left to do
-        ("start write", 0),
-        ("written", 0),
-        ("evicted", 0),
-        ("unmapped", u32::MAX),
+        Row::of("start write", 0),
+        Row::of("written", 0).number(12),
+        Row::of("evicted", 0),
+        Row::of("unmapped", NO_PAGE),
     ];
     assert_eq!(rt;
         entries_of(rt.alloc(), text, &[], &[2])?.as_slice(),
@@ -671,22 +621,22 @@ fn the_end_fails_in_one_region_and_goes_on_in_the_next(rt: HostRuntime) -> Resul
         writes: &[1],
     }];
     let wanted = [
-        ("raised", 0),
-        ("start read", 0),
-        ("filled", 0),
-        ("save", 0),
-        ("raised", 0),
-        ("start read", 0),
-        ("filled", 0),
-        ("save", 0),
-        ("closing", u32::MAX),
-        ("start write", 0),
-        ("write failed", 0),
-        ("closing", u32::MAX),
-        ("start write", 0),
-        ("written", 0),
-        ("evicted", 0),
-        ("unmapped", u32::MAX),
+        Row::of("raised", 0),
+        Row::of("start read", 0),
+        Row::of("filled", 0),
+        Row::of("save", 0).last(0x0a),
+        Row::of("raised", 0).region(1),
+        Row::of("start read", 0).region(1),
+        Row::of("filled", 0).region(1),
+        Row::of("save", 0).region(1).last(0x0b),
+        Row::of("closing", NO_PAGE),
+        Row::of("start write", 0),
+        Row::of("write failed", 0).number(1),
+        Row::of("closing", NO_PAGE).region(1),
+        Row::of("start write", 0).region(1),
+        Row::of("written", 0).region(1).number(12),
+        Row::of("evicted", 0).region(1),
+        Row::of("unmapped", NO_PAGE).region(1),
     ];
     assert_eq!(rt;
         entries_over(rt.alloc(), layout, text, &plan)?.as_slice(),
